@@ -1,0 +1,4 @@
+pub mod Lines
+pub mod Listings
+pub mod Answers
+pub mod Tallies
