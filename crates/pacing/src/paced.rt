@@ -50,5 +50,4 @@ pub impl StartRule for PacedRule as PacedStartRule {
 // The rule over any run of questions: yes exactly at or below the floor, or after as many noes as the pace.
 pub fn pace_is_kept(floor: u32, pace: u16)
     ensures { λ _. ⌜ KeepsPace floor pace ⌝ }
-{
-}
+{}
