@@ -1,0 +1,3 @@
+mod Holding
+mod Joining
+mod Windowing

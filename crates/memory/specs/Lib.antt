@@ -1,0 +1,4 @@
+pub mod Memories
+pub mod Packing
+pub mod Packs
+pub mod Records
