@@ -1,0 +1,11 @@
+pub mod Lists
+pub mod States
+pub mod Turns
+pub mod Faults
+pub mod Outcomes
+pub mod Calls
+pub mod Endless
+pub mod Reach
+pub mod Runs
+pub mod Laws
+pub mod Samples

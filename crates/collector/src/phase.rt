@@ -1,0 +1,7 @@
+// What the collector is doing between two calls.
+#[derive(Clone, Copy, PartialEq, Eq, Debug)]
+pub enum Phase {
+    Idle,
+    Mark,
+    Sweep,
+}
