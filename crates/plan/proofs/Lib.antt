@@ -1,0 +1,9 @@
+pub mod Lists
+pub mod Decimals
+pub mod Places
+pub mod Rows
+pub mod Agreements
+pub mod Tables
+pub mod Words
+pub mod Plans
+pub mod Uniqueness

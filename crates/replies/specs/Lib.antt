@@ -1,0 +1,5 @@
+pub mod Refusals
+pub mod Replies
+pub mod Requests
+pub mod Openings
+pub mod Sessions
