@@ -59,7 +59,7 @@ fn number(bytes: &[u8], from: usize, left: usize) -> Result<(u32, usize), usize>
 }
 
 // So many numbers up to the line's end, and the place after it; or the place where they go wrong.
-pub fn fields(bytes: &[u8], from: usize, count: usize) -> Result<([u32; 4], usize), usize>
+pub(super) fn fields(bytes: &[u8], from: usize, count: usize) -> Result<([u32; 4], usize), usize>
     requires { ⌜ from ≤ length (now bytes) ⌝ ∗ ⌜ count ≤ 4 ⌝ }
     ensures { λ r. ⌜ Cases r (λ p. NumbersAt (now (bytes .entry)) from count (p .0) (p .1)) (λ at. Stuck (Numbers count) (now (bytes .entry)) from at) ⌝ }
 {

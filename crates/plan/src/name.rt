@@ -54,7 +54,7 @@ fn longest(bytes: &[u8], from: usize, verbs: &[Verb]) -> Result<(Verb, usize), u
 }
 
 // The name at a place with its space, and the place after it; or the place where no name goes on.
-pub fn name(bytes: &[u8], from: usize, first: bool) -> Result<(Verb, usize), usize>
+pub(super) fn name(bytes: &[u8], from: usize, first: bool) -> Result<(Verb, usize), usize>
     requires { ⌜ from ≤ length (now bytes) ⌝ }
     ensures { λ r. ⌜ Cases r (λ p. NameAt first (now (bytes .entry)) from (p .0) (p .1)) (λ at. Stuck (Written first) (now (bytes .entry)) from at) ⌝ }
 {
