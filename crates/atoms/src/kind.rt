@@ -22,7 +22,7 @@ pub trait Kind {
 
 // The value of a code, told by the codes of values alone.
 fn read<K: Kind>(kind: &K, code: u32) -> Option<K::Value>
-    ensures { ValueOf (coded kind.now) code result }
+    ensures { ValueOf (K.coded kind.now) code result }
 {
     kind.value(code)
 }
@@ -30,7 +30,7 @@ fn read<K: Kind>(kind: &K, code: u32) -> Option<K::Value>
 // The value that is read back from the code of `value`.
 pub fn reread<K: Kind>(kind: &K, value: &K::Value) -> Option<K::Value>
     ensures same { result ≡ Some value.now }
-    ensures every { ReadsBack (coded kind.now) (valued kind.now) }
+    ensures every { ReadsBack (K.coded kind.now) (K.valued kind.now) }
 {
     read(kind, kind.code(value))
 }
@@ -38,7 +38,7 @@ pub fn reread<K: Kind>(kind: &K, value: &K::Value) -> Option<K::Value>
 // Whether `a` and `b` are one value, told from their codes alone.
 pub fn same_value<K: Kind>(kind: &K, a: &K::Value, b: &K::Value) -> bool
     ensures same { Decides result (a.now ≡ b.now) }
-    ensures apart { Apart (coded kind.now) }
+    ensures apart { Apart (K.coded kind.now) }
 {
     kind.code(a) == kind.code(b)
 }

@@ -1,4 +1,6 @@
 // Atoms: values that a cell or a register holds as codes, and the kinds that code them.
+#![tactic(auto)]
+
 pub mod aspect;
 pub mod aspects;
 mod byte;

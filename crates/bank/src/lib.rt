@@ -1,4 +1,6 @@
 // A bank of cells: what a word, a cell and a refusal are, and the interface that every memory and every layer implements.
+#![tactic(auto)]
+
 mod bank;
 mod fault;
 mod word;

@@ -1,4 +1,6 @@
 // A list store and its collector, as definitions with laws over every run of them; no call runs here.
+#![tactic(auto)]
+
 mod call;
 mod fault;
 mod phase;

@@ -1,4 +1,6 @@
 // Layers over banks. Each holds the bank below by value and is a bank again.
+#![tactic(auto)]
+
 mod hold;
 mod join;
 mod places;

@@ -1,4 +1,6 @@
 // Banks over lent memory, one cell to an element.
+#![tactic(auto)]
+
 mod lent;
 mod packed;
 mod packing;

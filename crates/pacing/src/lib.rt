@@ -1,4 +1,6 @@
 // Pacing: when a collection begins, and how much each of its turns does.
+#![tactic(auto)]
+
 pub mod effort;
 pub mod fault;
 pub mod floor;

@@ -1,3 +1,5 @@
 // Piles of banks, worked through on examples and edges.
+#![tactic(auto)]
+
 #[cfg(test)]
 mod tests;

@@ -1,4 +1,6 @@
 // Plans: the text that a run is asked for in, read into typed lines.
+#![tactic(auto)]
+
 pub mod fault;
 mod field;
 pub mod line;

@@ -1,4 +1,6 @@
 // What a plan's lines ask of a store, and what is written of its answers.
+#![tactic(auto)]
+
 mod call;
 mod fault;
 mod opening;

@@ -1,4 +1,6 @@
 // A store of Lisp cells over any bank, kind of atom and start rule, collected in small turns.
+#![tactic(auto)]
+
 mod link;
 mod registers;
 mod runs;

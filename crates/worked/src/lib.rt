@@ -1,4 +1,6 @@
 // Worked cases: what the definitions come to in figures.
+#![tactic(auto)]
+
 ghost use Rattle.worked.specs.Table.{Worked};
 ghost use Rattle.worked.specs.Bound.{BoundTested};
 

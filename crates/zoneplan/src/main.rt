@@ -1,4 +1,6 @@
 // zoneplan: reads a plan from standard input and prints the answers to its lines.
+#![tactic(auto)]
+
 use plan::reading::LIMIT;
 use replies::answer_plan;
 use std::io::Read;
