@@ -11,11 +11,11 @@ returns-then-n-size c =
     check-past c.args.limit c.args.size c.loop-atom.n c.args.atoms.now c.loop-atom.atom-index c.loop-atom-test.true c.if-n-size.true
     ∙ c.loop-atom.invariant
 
-pub returns-in-err-within : goal.returns-in-err-within
-returns-in-err-within c =
+pub returns-in_err-within : goal.returns-in_err-within
+returns-in_err-within c =
     let xs = c.args.atoms.now in
     let i = c.loop-atom.atom-index in
-    let wide = taken_refused c.args.limit (Word.Atom (get_or xs i 0)) tt c.in-err-within.field-0.0 c.in-err-within.ensures in
+    let wide = taken_refused c.args.limit (Word.Atom (get_or xs i 0)) tt c.in_err-within.field-0.0 c.in_err-within.ensures in
     let here : c.loop-atom.n < c.args.size = omega (arith, c.if-n-size.false) in
     let left = check-wide c.args.limit c.args.size c.loop-atom.n xs i c.loop-atom-test.true here wide.0 ∙ c.loop-atom.invariant in
     search rules
@@ -25,7 +25,7 @@ loop-atom-preserved c =
     let xs = c.args.atoms.now in
     let i = c.loop-atom.atom-index in
     let here : c.loop-atom.n < c.args.size = omega (arith, c.if-n-size.false) in
-    check-more c.args.limit c.args.size c.loop-atom.n xs i c.loop-atom-test.true here (taken-told c.args.limit (Word.Atom (get_or xs i 0)) tt tt c.in-ok-within.ensures)
+    check-more c.args.limit c.args.size c.loop-atom.n xs i c.loop-atom-test.true here (taken-told c.args.limit (Word.Atom (get_or xs i 0)) tt tt c.in_ok-within.ensures)
     ∙ c.loop-atom.invariant
 
 pub returns : goal.returns

@@ -8,7 +8,7 @@ use Rattle.bank.proofs.Laws.{asked-ok, on_cell-refused}
 use Rattle.bankdump.specs.Chains.{atom_in, atoms_from}
 use Rattle.bankdump.proofs.Chaining.{none_from, past-from, more-from, no-atom, read_more, read_all}
 use Rattle.bankdump.proofs.chain.read_chain.Goals as goal
-use Rattle.bankdump.proofs.chain.read_chain.Goals.{in-Atom+in-ok-push, in-default-car}
+use Rattle.bankdump.proofs.chain.read_chain.Goals.{in-Atom+in_ok-push, in_default-car}
 
 pub loop-init : goal.loop-init
 loop-init g c =
@@ -25,24 +25,24 @@ loop-preserved g c =
     let more = more-from _ k cells c.loop.word c.in-Cell.n c.in-Ok.cell c.in-Cell.is fuel told.0 told.1 in
     let seen : vec_items c.match-cell-2.atoms ≡ vec_items c.loop.atoms ++ atom_in c.in-Ok.cell.car =
     elim c.match-cell-2.branch [
-      | in-Atom+in-ok-push w ↦
+      | in-Atom+in_ok-push w ↦
           ap vec_items w.atoms-is
-          ∙ pushed (w.in-Atom.code ∷ []) refl w.in-ok-push.was w.push.ensures.items
+          ∙ pushed (w.in-Atom.code ∷ []) refl w.in_ok-push.was w.push.ensures.items
           ∙ ap (λ t. vec_items c.loop.atoms ++ t) (sym (ap atom_in w.in-Atom.is))
-      | in-default-car w ↦
+      | in_default-car w ↦
           ap vec_items w.atoms-is
           ∙ sym (append-nil (vec_items c.loop.atoms))
-          ∙ ap (λ t. vec_items c.loop.atoms ++ t) (sym (no-atom c.in-Ok.cell.car w.in-default-car.not-Atom))
+          ∙ ap (λ t. vec_items c.loop.atoms ++ t) (sym (no-atom c.in-Ok.cell.car w.in_default-car.not-Atom))
     ] in
     read_more _ _ _ _ _ (atom_in c.in-Ok.cell.car) seen c.loop.invariant more
 
-pub returns-in-default : goal.returns-in-default
-returns-in-default g c = read_all _ _ _ c.loop.invariant (none_from _ _ c.loop.word c.in-default.not-Cell)
+pub returns-in_default : goal.returns-in_default
+returns-in_default g c = read_all _ _ _ c.loop.invariant (none_from _ _ c.loop.word c.in_default.not-Cell)
 
-pub returns-in-default-cell : goal.returns-in-default-cell
-returns-in-default-cell g c =
+pub returns-in_default-cell : goal.returns-in_default-cell
+returns-in_default-cell g c =
     let cells = g.B.Bank.cells c.args.bank.now in
-    let told = on_cell-refused cells c.in-Cell.n (get_or cells c.in-Cell.n blank) c.in-default-cell.field-0 c.in-default-cell.ensures in
+    let told = on_cell-refused cells c.in-Cell.n (get_or cells c.in-Cell.n blank) c.in_default-cell.field-0 c.in_default-cell.ensures in
     read_all _ _ _ c.loop.invariant (past-from _ cells c.loop.word c.in-Cell.n c.in-Cell.is told.0)
 
 pub returns : goal.returns

@@ -11,8 +11,8 @@ returns-in-48-to-57 c = let h : c.args.at < length c.args.bytes.now = omega arit
     let q : get_or c.args.bytes.now c.args.at 0 ≡ 48 + c.from.result = omega arith in
     (omega arith, drop_more c.args.bytes.now c.args.at 0 h ∙ ap (λ (b : ℕ). b ∷ drop (c.args.at + 1) c.args.bytes.now) q)
 
-pub returns-in-default : goal.returns-in-default
-returns-in-default c = let h : c.args.at < length c.args.bytes.now = omega arith in subst NoDigit (sym (drop_more c.args.bytes.now c.args.at 0 h)) (λ d. omega arith)
+pub returns-in_default : goal.returns-in_default
+returns-in_default c = let h : c.args.at < length c.args.bytes.now = omega arith in subst NoDigit (sym (drop_more c.args.bytes.now c.args.at 0 h)) (λ d. omega arith)
 
-pub returns-in-default·2 : goal.returns-in-default·2
-returns-in-default·2 c = let h : c.args.at < length c.args.bytes.now = omega arith in subst NoDigit (sym (drop_more c.args.bytes.now c.args.at 0 h)) (λ d. omega arith)
+pub returns-in_default-2 : goal.returns-in_default-2
+returns-in_default-2 c = let h : c.args.at < length c.args.bytes.now = omega arith in subst NoDigit (sym (drop_more c.args.bytes.now c.args.at 0 h)) (λ d. omega arith)

@@ -6,11 +6,11 @@ use Rattle.replies.proofs.session.serve.Goals as goal
 
 pub returns : goal.returns
 returns c =
-    let slice = c.as-mut-slice.result.now in
-    let made-len = c.in-ok-memory.ensures.made in
-    let lent = c.as-mut-slice.ensures.len in
+    let slice = c.as_mut_slice.result.now in
+    let made-len = c.in_ok-memory.ensures.made in
+    let lent = c.as_mut_slice.ensures.len in
     let size = c.min-size.ensures in
     let whole : min 4096 (length slice) ≡ min c.args.cells 4096 = omega arith in
-    subst (λ (n : ℕ). IfOk c.serve-on.result (λ v. Served 268435455 n c.args.effort c.args.floor c.args.lines.now (vec_items v)))
+    subst (λ (n : ℕ). IfOk c.serve_on.result (λ v. Served 268435455 n c.args.effort c.args.floor c.args.lines.now (vec_items v)))
     (ap length c.new.ensures.empty ∙ length-replicate (min 4096 (length slice)) blank ∙ whole)
-    c.serve-on.ensures
+    c.serve_on.ensures

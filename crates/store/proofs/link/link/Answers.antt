@@ -11,10 +11,10 @@ loop-n-preserved g c =
     let law = g.B.Bank.sound c.loop-n.bank in
     let len : length (g.B.Bank.cells c.loop-n.bank) ≡ c.size-size.result = c.loop-n.invariant.1 ∙ sym c.size-size.ensures in
     let few : c.size-size.result ≤ 4096 = omega (arith, law.few) in (
-      link-more c.size-size.result c.loop-n.n (g.B.Bank.limit c.loop-n.bank) (g.B.Bank.cells c.loop-n.bank) (g.B.Bank.cells c.link-cell.new.bank) c.first-of.result
-          c.loop-n-test.true len few law.wide c.first-of.ensures c.link-cell.ensures.after c.loop-n.invariant.0,
-      link-length (g.B.Bank.limit c.loop-n.bank) _ _ c.loop-n.n c.first-of.result c.link-cell.ensures.after ∙ c.loop-n.invariant.1,
-      c.link-cell.ensures.fixed ∙ c.loop-n.invariant.2,
+      link-more c.size-size.result c.loop-n.n (g.B.Bank.limit c.loop-n.bank) (g.B.Bank.cells c.loop-n.bank) (g.B.Bank.cells c.link_cell.new.bank) c.first_of.result
+          c.loop-n-test.true len few law.wide c.first_of.ensures c.link_cell.ensures.after c.loop-n.invariant.0,
+      link-length (g.B.Bank.limit c.loop-n.bank) _ _ c.loop-n.n c.first_of.result c.link_cell.ensures.after ∙ c.loop-n.invariant.1,
+      c.link_cell.ensures.fixed ∙ c.loop-n.invariant.2,
     )
 
 pub returns : goal.returns

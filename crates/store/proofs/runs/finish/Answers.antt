@@ -21,7 +21,7 @@ loop-call-preserved g c =
     let ground = grounded-by g.B.Bank.limit g.B.Bank.cells g.K.Kind.coded g.K.Kind.valued g.R.StartRule.floor g.B.Bank.sound x in (
       λ fixed size e. run-next fixed size (grounded-new fixed size (m x) e ground) c.args.calls.now c.loop-call.call-index (vec_items c.loop-call.outcomes) (vec_items c.push.new.self)
           (m s) (m c.apply-outcome.new.self) c.call-item.result c.apply-outcome.result (rule_says g.R.StartRule.says s)
-          c.loop-call-test.true c.call-item.is c.in-default.ensures.items (λ idle low. g.R.StartRule.lawful s.rule s.count low)
+          c.loop-call-test.true c.call-item.is c.in_default.ensures.items (λ idle low. g.R.StartRule.lawful s.rule s.count low)
           c.apply-outcome.ensures.state c.apply-outcome.ensures.answer (c.loop-call.invariant.0 fixed size e),
       c.apply-outcome.ensures.kind ∙ c.loop-call.invariant.1,
     )

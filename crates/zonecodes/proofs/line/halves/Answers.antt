@@ -8,4 +8,4 @@ parted line None h = split_parts 32 line None h (lit< tt)
 parted line (Some p) h = let parts = split_parts 32 line (Some p) h (lit< tt) in record { whole = parts.0; first = parts.1 }
 
 pub returns : goal.returns
-returns c = parted c.args.line.now c.split-once.result c.split-once.ensures.cases
+returns c = parted c.args.line.now c.split_once.result c.split_once.ensures.cases

@@ -30,12 +30,12 @@ returns-else-from-n g c =
       fixed = refl;
     }
 
-pub returns-in-default : goal.returns-in-default
-returns-in-default g c =
+pub returns-in_default : goal.returns-in_default
+returns-in_default g c =
     let s = c.args.self.now in
     let n = c.args.n in
     record {
-      below = evicted-empty (g.B.Bank.limit s.below) (get_or s.places.slots (n % 16) Place.Empty) n (g.B.Bank.cells s.below) c.in-default.ensures.value;
+      below = evicted-empty (g.B.Bank.limit s.below) (get_or s.places.slots (n % 16) Place.Empty) n (g.B.Bank.cells s.below) c.in_default.ensures.value;
       rest = λ p. refl;
       full = c.get.ensures.full;
       fixed = refl;

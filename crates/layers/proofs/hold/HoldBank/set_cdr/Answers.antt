@@ -6,13 +6,13 @@ use Rattle.layers.specs.Holds.{merged, held, length-held}
 use Rattle.layers.proofs.Holding.{through-cdr, may-keep}
 use Rattle.layers.proofs.hold.HoldBank.set_cdr.Goals as goal
 
-pub returns-in-err-cell : goal.returns-in-err-cell
-returns-in-err-cell g c =
+pub returns-in_err-cell : goal.returns-in_err-cell
+returns-in_err-cell g c =
     let s = c.args.self.now in
     let n = c.args.n in
     let limit = g.B.Bank.limit s.below in
     let shown = held limit s.places.slots (g.B.Bank.cells s.below) in
-    let as-was = put_refused with_cdr limit shown n c.args.word c.in-err-cell.field-0.0 c.in-err-cell.ensures in
+    let as-was = put_refused with_cdr limit shown n c.args.word c.in_err-cell.field-0.0 c.in_err-cell.ensures in
     search rules
 
 pub keep-requires : goal.keep-requires
@@ -22,10 +22,10 @@ keep-requires g c =
     let limit = g.B.Bank.limit s.below in
     let cells = g.B.Bank.cells s.below in
     let shown = held limit s.places.slots cells in
-    let told = writable-ok limit shown n c.args.word c.in-ok-cell.cell c.in-ok-cell.ensures in
+    let told = writable-ok limit shown n c.args.word c.in_ok-cell.cell c.in_ok-cell.ensures in
     let here : n < length cells = omega (arith, told.0, length-held limit s.places.slots cells) in
     let Whole : Cell → Type 0 = λ x. merged limit x (get_or cells n blank) ≡ x in
     record {
       here = here;
-      whole = subst Whole (sym c.with-cdr.ensures) (may-keep limit (with_cdr c.args.word) s.places.slots cells n c.in-ok-cell.cell (through-cdr limit c.args.word told.1) here told.2);
+      whole = subst Whole (sym c.with_cdr.ensures) (may-keep limit (with_cdr c.args.word) s.places.slots cells n c.in_ok-cell.cell (through-cdr limit c.args.word told.1) here told.2);
     }

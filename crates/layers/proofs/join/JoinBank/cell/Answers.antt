@@ -12,8 +12,8 @@ returns-in-First g c =
     let n = c.args.n in
     let first = g.F.Bank.cells s.first in
     let second = g.G.Bank.cells s.second in
-    let told = on_cell-told (joined first second) n (side_of (length first) n) c.in-ok-m.field-0 c.in-ok-m.ensures in
-    let side = side-first (length first) n c.in-First.m c.in-ok-m.field-0 told.1 c.in-First.is in
+    let told = on_cell-told (joined first second) n (side_of (length first) n) c.in_ok-m.field-0 c.in_ok-m.ensures in
+    let side = side-first (length first) n c.in-First.m c.in_ok-m.field-0 told.1 c.in-First.is in
     c.cell.ensures
     ∙ ap (asked first) side.1
     ∙ on_cell-here first n (Ok (get_or first n blank)) side.0
@@ -26,8 +26,8 @@ returns-in-Second g c =
     let n = c.args.n in
     let first = g.F.Bank.cells s.first in
     let second = g.G.Bank.cells s.second in
-    let told = on_cell-told (joined first second) n (side_of (length first) n) c.in-ok-m.field-0 c.in-ok-m.ensures in
-    let side = side-second (length first) n c.in-Second.m c.in-ok-m.field-0 told.1 c.in-Second.is in
+    let told = on_cell-told (joined first second) n (side_of (length first) n) c.in_ok-m.field-0 c.in_ok-m.ensures in
+    let side = side-second (length first) n c.in-Second.m c.in_ok-m.field-0 told.1 c.in-Second.is in
     c.cell-in-Second.ensures
     ∙ ap (asked second) side.1
     ∙ on_cell-here second (n - length first) (Ok (get_or second (n - length first) blank)) (in-second first second n told.0 side.0)

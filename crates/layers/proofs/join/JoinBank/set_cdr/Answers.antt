@@ -7,8 +7,8 @@ use Rattle.layers.specs.Joins.{joined, side_of}
 use Rattle.layers.proofs.Joining.{side-first, side-second, word_first, word-second, wrote_none}
 use Rattle.layers.proofs.join.JoinBank.set_cdr.Goals as goal
 
-pub returns-in-err-side : goal.returns-in-err-side
-returns-in-err-side g c =
+pub returns-in_err-side : goal.returns-in_err-side
+returns-in_err-side g c =
     let s = c.args.self.now in
     let n = c.args.n in
     let first = g.F.Bank.cells s.first in
@@ -16,13 +16,13 @@ returns-in-err-side g c =
     let w = c.args.word in
     let l = g.F.Bank.limit s.first in
     let m = g.G.Bank.limit s.second in
-    let told = on_cell-refused (joined first second) n (side_of (length first) n) c.in-err-side.field-0.0 c.in-err-side.ensures in
+    let told = on_cell-refused (joined first second) n (side_of (length first) n) c.in_err-side.field-0.0 c.in_err-side.ensures in
     let none = on_cell-past {A = Unit {0}} (joined first second) n (taken (min l m) w (Ok tt)) told.0 in
     let same = wrote_none (fits (min l m) w) (with_cdr w) first second n (g.F.Bank.sound s.first).few (λ _. told.0) in
     search rules
 
-pub returns-in-err-within : goal.returns-in-err-within
-returns-in-err-within g c =
+pub returns-in_err-within : goal.returns-in_err-within
+returns-in_err-within g c =
     let s = c.args.self.now in
     let n = c.args.n in
     let first = g.F.Bank.cells s.first in
@@ -30,9 +30,9 @@ returns-in-err-within g c =
     let w = c.args.word in
     let l = g.F.Bank.limit s.first in
     let m = g.G.Bank.limit s.second in
-    let told = on_cell-told (joined first second) n (side_of (length first) n) c.in-ok-side.side c.in-ok-side.ensures in
-    let wide = taken_refused c.word-limit.result w tt c.in-err-within.field-0.0 c.in-err-within.ensures in
-    let unfit : fits (min l m) w ≡ false = ap (λ k. fits k w) (sym c.word-limit.ensures) ∙ wide.0 in
+    let told = on_cell-told (joined first second) n (side_of (length first) n) c.in_ok-side.side c.in_ok-side.ensures in
+    let wide = taken_refused c.word_limit.result w tt c.in_err-within.field-0.0 c.in_err-within.ensures in
+    let unfit : fits (min l m) w ≡ false = ap (λ k. fits k w) (sym c.word_limit.ensures) ∙ wide.0 in
     let none = word_taken-wide (min l m) (joined first second) n w told.0 unfit in
     let same = wrote_none (fits (min l m) w) (with_cdr w) first second n (g.F.Bank.sound s.first).few (λ t. absurd (both_ways (fits (min l m) w) unfit t)) in
     search rules
@@ -46,11 +46,11 @@ returns-in-First g c =
     let w = c.args.word in
     let l = g.F.Bank.limit s.first in
     let m = g.G.Bank.limit s.second in
-    let told = on_cell-told (joined first second) n (side_of (length first) n) c.in-ok-side.side c.in-ok-side.ensures in
-    let side = side-first (length first) n c.in-First.m c.in-ok-side.side told.1 c.in-First.is in
-    let fit : fits (min l m) w ≡ true = ap (λ k. fits k w) (sym c.word-limit.ensures) ∙ taken-told c.word-limit.result w tt tt c.in-ok-within.ensures in
-    let done = word_first with_cdr l m w first second _ n c.in-First.m _ told.0 fit side c.set-cdr.ensures.answer c.set-cdr.ensures.after in
-    let fixed = ap (λ i. min i m) c.set-cdr.ensures.fixed in
+    let told = on_cell-told (joined first second) n (side_of (length first) n) c.in_ok-side.side c.in_ok-side.ensures in
+    let side = side-first (length first) n c.in-First.m c.in_ok-side.side told.1 c.in-First.is in
+    let fit : fits (min l m) w ≡ true = ap (λ k. fits k w) (sym c.word_limit.ensures) ∙ taken-told c.word_limit.result w tt tt c.in_ok-within.ensures in
+    let done = word_first with_cdr l m w first second _ n c.in-First.m _ told.0 fit side c.set_cdr.ensures.answer c.set_cdr.ensures.after in
+    let fixed = ap (λ i. min i m) c.set_cdr.ensures.fixed in
     search rules
 
 pub returns-in-Second : goal.returns-in-Second
@@ -62,9 +62,9 @@ returns-in-Second g c =
     let w = c.args.word in
     let l = g.F.Bank.limit s.first in
     let m = g.G.Bank.limit s.second in
-    let told = on_cell-told (joined first second) n (side_of (length first) n) c.in-ok-side.side c.in-ok-side.ensures in
-    let side = side-second (length first) n c.in-Second.m c.in-ok-side.side told.1 c.in-Second.is in
-    let fit : fits (min l m) w ≡ true = ap (λ k. fits k w) (sym c.word-limit.ensures) ∙ taken-told c.word-limit.result w tt tt c.in-ok-within.ensures in
-    let done = word-second with_cdr l m w first second _ n c.in-Second.m _ told.0 fit side c.set-cdr-in-Second.ensures.answer c.set-cdr-in-Second.ensures.after in
-    let fixed = ap (min l) c.set-cdr-in-Second.ensures.fixed in
+    let told = on_cell-told (joined first second) n (side_of (length first) n) c.in_ok-side.side c.in_ok-side.ensures in
+    let side = side-second (length first) n c.in-Second.m c.in_ok-side.side told.1 c.in-Second.is in
+    let fit : fits (min l m) w ≡ true = ap (λ k. fits k w) (sym c.word_limit.ensures) ∙ taken-told c.word_limit.result w tt tt c.in_ok-within.ensures in
+    let done = word-second with_cdr l m w first second _ n c.in-Second.m _ told.0 fit side c.set_cdr-in-Second.ensures.answer c.set_cdr-in-Second.ensures.after in
+    let fixed = ap (min l) c.set_cdr-in-Second.ensures.fixed in
     search rules

@@ -12,7 +12,7 @@ returns g c =
     let n = c.args.n in
     let cells = g.B.Bank.cells s.below in
     let shown = windowed s.offset s.len cells in
-    let told = on_cell-told shown n (s.offset + n) c.in-ok-m.m c.in-ok-m.ensures in
+    let told = on_cell-told shown n (s.offset + n) c.in_ok-m.m c.in_ok-m.ensures in
     c.cell.ensures
     ∙ ap (asked cells) told.1
     ∙ on_cell-windowed s.offset s.len cells n (Ok (get_or cells (s.offset + n) blank)) told.0

@@ -6,15 +6,15 @@ use Rattle.layers.specs.Windows.{windowed}
 use Rattle.layers.proofs.Windowing.{on_cell-windowed, wrote, framed_kept}
 use Rattle.layers.proofs.window.WindowBank.set_car.Goals as goal
 
-pub returns-in-err-m : goal.returns-in-err-m
-returns-in-err-m g c =
+pub returns-in_err-m : goal.returns-in_err-m
+returns-in_err-m g c =
     let s = c.args.self.now in
     let n = c.args.n in
     let w = c.args.word in
     let limit = g.B.Bank.limit s.below in
     let cells = g.B.Bank.cells s.below in
     let shown = windowed s.offset s.len cells in
-    let told = on_cell-refused shown n (s.offset + n) c.in-err-m.field-0.0 c.in-err-m.ensures in
+    let told = on_cell-refused shown n (s.offset + n) c.in_err-m.field-0.0 c.in_err-m.ensures in
     let none = on_cell-past {A = Unit {0}} shown n (taken limit w (Ok tt)) told.0 in
     let same = put-past with_car limit shown n w told.0 in
     let frame = framed_kept s.offset s.len cells _ same in
@@ -27,7 +27,7 @@ returns g c =
     let w = c.args.word in
     let limit = g.B.Bank.limit s.below in
     let cells = g.B.Bank.cells s.below in
-    let told = on_cell-told (windowed s.offset s.len cells) n (s.offset + n) c.in-ok-m.m c.in-ok-m.ensures in
-    let done = wrote (fits limit w) s.offset s.len (with_car w) cells _ n c.in-ok-m.m told.0 told.1 c.set-car.ensures.after in
-    let answer = c.set-car.ensures.answer ∙ ap (λ k. word_taken limit cells k w) told.1 ∙ on_cell-windowed s.offset s.len cells n (taken limit w (Ok tt)) told.0 in
+    let told = on_cell-told (windowed s.offset s.len cells) n (s.offset + n) c.in_ok-m.m c.in_ok-m.ensures in
+    let done = wrote (fits limit w) s.offset s.len (with_car w) cells _ n c.in_ok-m.m told.0 told.1 c.set_car.ensures.after in
+    let answer = c.set_car.ensures.answer ∙ ap (λ k. word_taken limit cells k w) told.1 ∙ on_cell-windowed s.offset s.len cells n (taken limit w (Ok tt)) told.0 in
     search rules

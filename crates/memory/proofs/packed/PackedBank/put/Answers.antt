@@ -16,7 +16,7 @@ returns c =
     let m = c.args.self.now.memory.now in
     let n = c.args.n in
     let h : n < length (front m) = omega (arith, length-shown m, c.requires.here) in
-    let is = ap (set m n) c.packed-cell.ensures in
+    let is = ap (set m n) c.packed_cell.ensures in
     record {
       after = ap shown is ∙ shown-set m n c.args.cell c.requires.narrow h;
       stored = is ∙ stored-set m n c.args.cell h;

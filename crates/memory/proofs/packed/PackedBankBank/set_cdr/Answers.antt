@@ -6,15 +6,15 @@ use Rattle.memory.specs.Packs.{shown}
 use Rattle.memory.proofs.Writes.{narrow-shown}
 use Rattle.memory.proofs.packed.PackedBankBank.set_cdr.Goals as goal
 
-pub returns-in-err-cell : goal.returns-in-err-cell
-returns-in-err-cell c =
+pub returns-in_err-cell : goal.returns-in_err-cell
+returns-in_err-cell c =
     let m = c.args.self.now.memory.now in
-    let as-was = put_refused with_cdr packed_top (shown m) c.args.n c.args.word c.in-err-cell.field-0.0 c.in-err-cell.ensures in
+    let as-was = put_refused with_cdr packed_top (shown m) c.args.n c.args.word c.in_err-cell.field-0.0 c.in_err-cell.ensures in
     search rules
 
 pub put-requires : goal.put-requires
 put-requires c =
     let m = c.args.self.now.memory.now in
-    let told = writable-ok packed_top (shown m) c.args.n c.args.word c.in-ok-cell.cell c.in-ok-cell.ensures in
-    let read = narrow-shown m c.args.n c.in-ok-cell.cell told.2 in
-    record { here = told.0; narrow = subst Narrow (sym c.with-cdr.ensures) (record { car = search rules; cdr = search rules }) }
+    let told = writable-ok packed_top (shown m) c.args.n c.args.word c.in_ok-cell.cell c.in_ok-cell.ensures in
+    let read = narrow-shown m c.args.n c.in_ok-cell.cell told.2 in
+    record { here = told.0; narrow = subst Narrow (sym c.with_cdr.ensures) (record { car = search rules; cdr = search rules }) }

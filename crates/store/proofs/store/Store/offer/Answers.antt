@@ -5,9 +5,9 @@ use Rattle.store.specs.Stacks.{waiting_of}
 use Rattle.store.proofs.Heaps.{at-answered, at-refused, offer-by, state-is, fixed-is, heap_is}
 use Rattle.store.proofs.store.Store.offer.Goals as goal
 
-pub returns-in-default-cell : goal.returns-in-default-cell
-returns-in-default-cell g c =
-    let a = at-refused (g.B.Bank.cells c.args.self.now.bank) c.in-Cell.n c.in-default-cell.field-0 (sym c.in-default-cell.is ∙ c.cell.ensures) in
+pub returns-in_default-cell : goal.returns-in_default-cell
+returns-in_default-cell g c =
+    let a = at-refused (g.B.Bank.cells c.args.self.now.bank) c.in-Cell.n c.in_default-cell.field-0 (sym c.in_default-cell.is ∙ c.cell.ensures) in
     let h : Heap = record { cells = g.B.Bank.cells c.args.self.now.bank; stack = waiting_of c.args.self.now.waiting } in
     record { state = state-is _ _ refl (sym (offer-by c.args.word c.in-Cell.n h _ true c.in-Cell.is a refl)) refl refl refl; kind = refl; rule = refl }
 
@@ -16,8 +16,8 @@ returns-then-not-cell g c =
     let a = at-answered (g.B.Bank.cells c.args.self.now.bank) c.in-Cell.n c.in-Ok.cell (sym c.in-Ok.is ∙ c.cell.ensures) in
     let h : Heap = record { cells = g.B.Bank.cells c.args.self.now.bank; stack = waiting_of c.args.self.now.waiting } in
     record {
-      state = state-is _ _ (fixed-is _ _ _ _ _ _ _ _ c.set-mark.ensures.fixed refl)
-          (heap_is _ _ c.set-mark.ensures.after c.push.ensures ∙ sym (offer-by c.args.word c.in-Cell.n h _ false c.in-Cell.is a (not-true _ c.if-not-cell.true)))
+      state = state-is _ _ (fixed-is _ _ _ _ _ _ _ _ c.set_mark.ensures.fixed refl)
+          (heap_is _ _ c.set_mark.ensures.after c.push.ensures ∙ sym (offer-by c.args.word c.in-Cell.n h _ false c.in-Cell.is a (not-true _ c.if-not-cell.true)))
           refl refl refl;
       kind = refl;
       rule = refl;
