@@ -7,9 +7,9 @@ use std::alloc::{AllocError, Global};
 
 // Writes the atoms as a chain into the cells from `from` on and gives the number of the next cell, or writes nothing.
 pub fn write_chain<B: Bank>(bank: &mut B, from: u32, atoms: &[u32]) -> Result<u32, BankFault>
-    ensures answer { result ≡ chain_taken (limit bank.old) (length (cells bank.old)) from atoms.now }
-    ensures after { cells bank.new ≡ (if is_ok result then placed (cells bank.old) from (chain from atoms.now) else cells bank.old) }
-    ensures fixed { limit bank.new ≡ limit bank.old }
+    ensures answer { result ≡ chain_taken (B.limit bank.old) (length (B.cells bank.old)) from atoms.now }
+    ensures after { B.cells bank.new ≡ (if is_ok result then placed (B.cells bank.old) from (chain from atoms.now) else B.cells bank.old) }
+    ensures fixed { B.limit bank.new ≡ B.limit bank.old }
 {
     let next = check_chain(bank.word_limit(), bank.size(), from, atoms)?;
     for (i, atom) in atoms.iter().enumerate() {
@@ -47,7 +47,7 @@ fn check_chain(limit: u32, size: u32, from: u32, atoms: &[u32]) -> Result<u32, B
 
 // The atoms of the chain that begins in cell `start`.
 pub fn read_chain<B: Bank>(heap: Global, bank: &B, start: u32) -> Result<Vec<u32>, AllocError>
-    ensures { IfOk result (λ v. v.items ≡ atoms_from (length (cells bank.now)) (cells bank.now) (Word.Cell start)) }
+    ensures { IfOk result (λ v. v.items ≡ atoms_from (length (B.cells bank.now)) (B.cells bank.now) (Word.Cell start)) }
 {
     let mut atoms = Vec::new(heap);
     let mut word = Word::Cell(start);

@@ -24,7 +24,7 @@ fn serve_on<B: Bank + Drop>(
     floor: u32,
     lines: &[Line],
 ) -> Result<Vec<Reply>, AllocError>
-    ensures { IfOk result (λ v. Served (limit bank) (length (cells bank)) effort floor lines.now v.items) }
+    ensures { IfOk result (λ v. Served (B.limit bank) (length (B.cells bank)) effort floor lines.now v.items) }
 {
     let calls = calls_in(heap, lines)?;
     let Ok((outcomes, _store)) = run(

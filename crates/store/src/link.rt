@@ -16,8 +16,8 @@ pub fn first_of(n: u32, rest: u32) -> Word
 
 // Frees a cell, whatever it held.
 fn link_cell<B: Bank>(bank: &mut B, n: u32, next: Word)
-    ensures after { cells bank.new ≡ changed (with_mark false) (word_put with_cdr (limit bank.old) (word_put with_car (limit bank.old) (cells bank.old) n next) n Word.Reserved) n }
-    ensures fixed { limit bank.new ≡ limit bank.old }
+    ensures after { B.cells bank.new ≡ changed (with_mark false) (word_put with_cdr (B.limit bank.old) (word_put with_car (B.limit bank.old) (B.cells bank.old) n next) n Word.Reserved) n }
+    ensures fixed { B.limit bank.new ≡ B.limit bank.old }
 {
     let _ = bank.set_car(n, next);
     let _ = bank.set_cdr(n, Word::Reserved);
@@ -26,9 +26,9 @@ fn link_cell<B: Bank>(bank: &mut B, n: u32, next: Word)
 
 // Links every cell to the next one through its car, and reserves its cdr; how many there are.
 pub fn link<B: Bank>(bank: &mut B) -> u32
-    ensures size { result ≡ length (cells bank.old) }
-    ensures after { cells bank.new ≡ linked 0 (length (cells bank.old)) }
-    ensures fixed { limit bank.new ≡ limit bank.old }
+    ensures size { result ≡ length (B.cells bank.old) }
+    ensures after { B.cells bank.new ≡ linked 0 (length (B.cells bank.old)) }
+    ensures fixed { B.limit bank.new ≡ B.limit bank.old }
 {
     let size = bank.size();
     for n in 0..size {

@@ -26,7 +26,7 @@ fn finish<B: Bank, K: Kind, R: StartRule>(
     mut store: Store<B, K, R>,
     calls: &[Call<K::Value>],
 ) -> Result<(Vec<Outcome<K::Value>>, Store<B, K, R>), RunFault<B, K, R, K::Value>>
-    ensures law { (fixed : Fixed K.Value) (size : ℕ) → meant limit cells coded valued floor store ≡ new fixed size → Ran fixed size calls.now (meant limit cells coded valued floor) result }
+    ensures law { (fixed : Fixed K.Value) (size : ℕ) → meant B.limit B.cells K.coded K.valued R.floor store ≡ new fixed size → Ran fixed size calls.now (meant B.limit B.cells K.coded K.valued R.floor) result }
     ensures kind { (store_of result).kind ≡ store.kind }
 {
     let mut outcomes = Vec::new(heap);
@@ -52,7 +52,7 @@ pub fn run<B: Bank, K: Kind, R: StartRule>(
     effort: Effort,
     calls: &[Call<K::Value>],
 ) -> Result<(Vec<Outcome<K::Value>>, Store<B, K, R>), RunFault<B, K, R, K::Value>>
-    ensures law { Ran (fixed_by limit coded valued floor bank kind rule effort) (length (cells bank)) calls.now (meant limit cells coded valued floor) result }
+    ensures law { Ran (fixed_by B.limit K.coded K.valued R.floor bank kind rule effort) (length (B.cells bank)) calls.now (meant B.limit B.cells K.coded K.valued R.floor) result }
     ensures kind { (store_of result).kind ≡ kind }
 {
     let store = Store::new(bank, kind, rule, effort);

@@ -38,7 +38,7 @@ pub struct Store<B, K, R> {
 impl<B: Bank, K: Kind, R: StartRule> Store<B, K, R> {
     // To offer a word is to mark and push the cell that it names, if that is unmarked.
     fn offer(&mut self, word: Word)
-        ensures state { meant limit cells coded valued floor self.new ≡ with_heap (offer word (meant limit cells coded valued floor self.old).heap) (meant limit cells coded valued floor self.old) }
+        ensures state { meant B.limit B.cells K.coded K.valued R.floor self.new ≡ with_heap (offer word (meant B.limit B.cells K.coded K.valued R.floor self.old).heap) (meant B.limit B.cells K.coded K.valued R.floor self.old) }
         ensures kind { self.new.kind ≡ self.old.kind }
         ensures rule { self.new.rule ≡ self.old.rule }
     {
@@ -56,7 +56,7 @@ impl<B: Bank, K: Kind, R: StartRule> Store<B, K, R> {
 
     // Offers the words of a table, in order.
     fn offer_all(&mut self, words: &[Word])
-        ensures state { meant limit cells coded valued floor self.new ≡ with_heap (offers words.now (meant limit cells coded valued floor self.old).heap) (meant limit cells coded valued floor self.old) }
+        ensures state { meant B.limit B.cells K.coded K.valued R.floor self.new ≡ with_heap (offers words.now (meant B.limit B.cells K.coded K.valued R.floor self.old).heap) (meant B.limit B.cells K.coded K.valued R.floor self.old) }
         ensures kind { self.new.kind ≡ self.old.kind }
         ensures rule { self.new.rule ≡ self.old.rule }
     {
@@ -67,7 +67,7 @@ impl<B: Bank, K: Kind, R: StartRule> Store<B, K, R> {
 
     // The roots of a new collection are offered, and the sweep is set back.
     fn begin(&mut self)
-        ensures state { meant limit cells coded valued floor self.new ≡ with_phase self.old.phase (begun (meant limit cells coded valued floor self.old)) }
+        ensures state { meant B.limit B.cells K.coded K.valued R.floor self.new ≡ with_phase self.old.phase (begun (meant B.limit B.cells K.coded K.valued R.floor self.old)) }
         ensures kind { self.new.kind ≡ self.old.kind }
         ensures rule { self.new.rule ≡ self.old.rule }
     {
@@ -78,7 +78,7 @@ impl<B: Bank, K: Kind, R: StartRule> Store<B, K, R> {
 
     // Offers the car of a cell and then its cdr.
     fn offer_fields(&mut self, cell: Cell)
-        ensures state { meant limit cells coded valued floor self.new ≡ with_heap (offer cell.cdr (offer cell.car (meant limit cells coded valued floor self.old).heap)) (meant limit cells coded valued floor self.old) }
+        ensures state { meant B.limit B.cells K.coded K.valued R.floor self.new ≡ with_heap (offer cell.cdr (offer cell.car (meant B.limit B.cells K.coded K.valued R.floor self.old).heap)) (meant B.limit B.cells K.coded K.valued R.floor self.old) }
         ensures kind { self.new.kind ≡ self.old.kind }
         ensures rule { self.new.rule ≡ self.old.rule }
     {
@@ -89,8 +89,8 @@ impl<B: Bank, K: Kind, R: StartRule> Store<B, K, R> {
 
     // Pops the latest waiting cell, and offers its car and then its cdr; the count of cells popped, none where none waits.
     fn scan(&mut self) -> u32
-        ensures state { meant limit cells coded valued floor self.new ≡ with_heap (scan (meant limit cells coded valued floor self.old).heap) (meant limit cells coded valued floor self.old) }
-        ensures popped { result ≡ length (latest (meant limit cells coded valued floor self.old).heap.stack) }
+        ensures state { meant B.limit B.cells K.coded K.valued R.floor self.new ≡ with_heap (scan (meant B.limit B.cells K.coded K.valued R.floor self.old).heap) (meant B.limit B.cells K.coded K.valued R.floor self.old) }
+        ensures popped { result ≡ length (latest (meant B.limit B.cells K.coded K.valued R.floor self.old).heap.stack) }
         ensures kind { self.new.kind ≡ self.old.kind }
         ensures rule { self.new.rule ≡ self.old.rule }
     {
@@ -106,8 +106,8 @@ impl<B: Bank, K: Kind, R: StartRule> Store<B, K, R> {
 
     // The mark turn's share: up to k1 scans. The count of cells popped.
     fn scans(&mut self) -> u32
-        ensures state { meant limit cells coded valued floor self.new ≡ with_heap (scans self.old.effort.k1 (meant limit cells coded valued floor self.old).heap) (meant limit cells coded valued floor self.old) }
-        ensures popped { result ≡ length (scanned self.old.effort.k1 (meant limit cells coded valued floor self.old).heap) }
+        ensures state { meant B.limit B.cells K.coded K.valued R.floor self.new ≡ with_heap (scans self.old.effort.k1 (meant B.limit B.cells K.coded K.valued R.floor self.old).heap) (meant B.limit B.cells K.coded K.valued R.floor self.old) }
+        ensures popped { result ≡ length (scanned self.old.effort.k1 (meant B.limit B.cells K.coded K.valued R.floor self.old).heap) }
         ensures kind { self.new.kind ≡ self.old.kind }
         ensures rule { self.new.rule ≡ self.old.rule }
     {
@@ -120,7 +120,7 @@ impl<B: Bank, K: Kind, R: StartRule> Store<B, K, R> {
 
     // Makes a cell the head of the free list.
     fn release(&mut self, n: u32)
-        ensures state { meant limit cells coded valued floor self.new ≡ with_ground (treat false false (limit self.old.bank) n (ground (meant limit cells coded valued floor self.old))) (meant limit cells coded valued floor self.old) }
+        ensures state { meant B.limit B.cells K.coded K.valued R.floor self.new ≡ with_ground (treat false false (B.limit self.old.bank) n (ground (meant B.limit B.cells K.coded K.valued R.floor self.old))) (meant B.limit B.cells K.coded K.valued R.floor self.old) }
         ensures kind { self.new.kind ≡ self.old.kind }
         ensures rule { self.new.rule ≡ self.old.rule }
     {
@@ -134,7 +134,7 @@ impl<B: Bank, K: Kind, R: StartRule> Store<B, K, R> {
 
     // Takes the mark off cell n, leaves it where it is free, and releases it otherwise.
     fn treat(&mut self, n: u32, cell: Cell)
-        ensures state { meant limit cells coded valued floor self.new ≡ with_ground (treat cell.mark (is_reserved cell.cdr) (limit self.old.bank) n (ground (meant limit cells coded valued floor self.old))) (meant limit cells coded valued floor self.old) }
+        ensures state { meant B.limit B.cells K.coded K.valued R.floor self.new ≡ with_ground (treat cell.mark (is_reserved cell.cdr) (B.limit self.old.bank) n (ground (meant B.limit B.cells K.coded K.valued R.floor self.old))) (meant B.limit B.cells K.coded K.valued R.floor self.old) }
         ensures kind { self.new.kind ≡ self.old.kind }
         ensures rule { self.new.rule ≡ self.old.rule }
     {
@@ -149,8 +149,8 @@ impl<B: Bank, K: Kind, R: StartRule> Store<B, K, R> {
 
     // Sweeps the cell at the sweeper; the count of cells swept, none past the last.
     fn sweep(&mut self) -> u32
-        ensures state { meant limit cells coded valued floor self.new ≡ with_ground (sweep (limit self.old.bank) (ground (meant limit cells coded valued floor self.old))) (meant limit cells coded valued floor self.old) }
-        ensures swept { result ≡ (if nat_lt self.old.sweeper (length (meant limit cells coded valued floor self.old).heap.cells) then 1 else 0) }
+        ensures state { meant B.limit B.cells K.coded K.valued R.floor self.new ≡ with_ground (sweep (B.limit self.old.bank) (ground (meant B.limit B.cells K.coded K.valued R.floor self.old))) (meant B.limit B.cells K.coded K.valued R.floor self.old) }
+        ensures swept { result ≡ (if nat_lt self.old.sweeper (length (meant B.limit B.cells K.coded K.valued R.floor self.old).heap.cells) then 1 else 0) }
         ensures kind { self.new.kind ≡ self.old.kind }
         ensures rule { self.new.rule ≡ self.old.rule }
     {
@@ -165,8 +165,8 @@ impl<B: Bank, K: Kind, R: StartRule> Store<B, K, R> {
 
     // The sweep turn's share: up to k2 cells. The count of cells swept.
     fn sweeps(&mut self) -> u32
-        ensures state { meant limit cells coded valued floor self.new ≡ with_ground (sweeps (limit self.old.bank) self.old.effort.k2 (ground (meant limit cells coded valued floor self.old))) (meant limit cells coded valued floor self.old) }
-        ensures swept { result ≡ min self.old.effort.k2 (length (meant limit cells coded valued floor self.old).heap.cells - self.old.sweeper) }
+        ensures state { meant B.limit B.cells K.coded K.valued R.floor self.new ≡ with_ground (sweeps (B.limit self.old.bank) self.old.effort.k2 (ground (meant B.limit B.cells K.coded K.valued R.floor self.old))) (meant B.limit B.cells K.coded K.valued R.floor self.old) }
+        ensures swept { result ≡ min self.old.effort.k2 (length (meant B.limit B.cells K.coded K.valued R.floor self.old).heap.cells - self.old.sweeper) }
         ensures kind { self.new.kind ≡ self.old.kind }
         ensures rule { self.new.rule ≡ self.old.rule }
     {
@@ -179,8 +179,8 @@ impl<B: Bank, K: Kind, R: StartRule> Store<B, K, R> {
 
     // The share of work that the phase has in a turn.
     fn share(&mut self) -> u32
-        ensures state { meant limit cells coded valued floor self.new ≡ shared (meant limit cells coded valued floor self.old) }
-        ensures work { result ≡ work_of (meant limit cells coded valued floor self.old) }
+        ensures state { meant B.limit B.cells K.coded K.valued R.floor self.new ≡ shared (meant B.limit B.cells K.coded K.valued R.floor self.old) }
+        ensures work { result ≡ work_of (meant B.limit B.cells K.coded K.valued R.floor self.old) }
         ensures kind { self.new.kind ≡ self.old.kind }
         ensures rule { self.new.rule ≡ self.old.rule }
     {
@@ -193,8 +193,8 @@ impl<B: Bank, K: Kind, R: StartRule> Store<B, K, R> {
 
     // Whether the phase is over. Only an idle store asks its start rule, since a question may change later answers.
     fn is_over(&mut self) -> bool
-        ensures state { meant limit cells coded valued floor self.new ≡ meant limit cells coded valued floor self.old }
-        ensures answer { result ≡ over (rule_says says self.old) (meant limit cells coded valued floor self.old) }
+        ensures state { meant B.limit B.cells K.coded K.valued R.floor self.new ≡ meant B.limit B.cells K.coded K.valued R.floor self.old }
+        ensures answer { result ≡ over (rule_says R.says self.old) (meant B.limit B.cells K.coded K.valued R.floor self.old) }
         ensures kind { self.new.kind ≡ self.old.kind }
         ensures rule { is_idle self.old.phase ≡ false → self.new.rule ≡ self.old.rule }
     {
@@ -207,8 +207,8 @@ impl<B: Bank, K: Kind, R: StartRule> Store<B, K, R> {
 
     // A turn of the collector; its work.
     fn turn(&mut self) -> u32
-        ensures state { meant limit cells coded valued floor self.new ≡ turn (rule_says says self.old) (meant limit cells coded valued floor self.old) }
-        ensures work { result ≡ work_of (meant limit cells coded valued floor self.old) }
+        ensures state { meant B.limit B.cells K.coded K.valued R.floor self.new ≡ turn (rule_says R.says self.old) (meant B.limit B.cells K.coded K.valued R.floor self.old) }
+        ensures work { result ≡ work_of (meant B.limit B.cells K.coded K.valued R.floor self.old) }
         ensures kind { self.new.kind ≡ self.old.kind }
         ensures rule { is_idle self.old.phase ≡ false → self.new.rule ≡ self.old.rule }
     {
@@ -228,7 +228,7 @@ impl<B: Bank, K: Kind, R: StartRule> Store<B, K, R> {
 
     // While marking, a word that is about to be overwritten is offered.
     fn shade(&mut self, word: Word)
-        ensures state { meant limit cells coded valued floor self.new ≡ with_heap (offer_in self.old.phase word (meant limit cells coded valued floor self.old).heap) (meant limit cells coded valued floor self.old) }
+        ensures state { meant B.limit B.cells K.coded K.valued R.floor self.new ≡ with_heap (offer_in self.old.phase word (meant B.limit B.cells K.coded K.valued R.floor self.old).heap) (meant B.limit B.cells K.coded K.valued R.floor self.old) }
         ensures kind { self.new.kind ≡ self.old.kind }
         ensures rule { self.new.rule ≡ self.old.rule }
     {
@@ -239,8 +239,8 @@ impl<B: Bank, K: Kind, R: StartRule> Store<B, K, R> {
 
     // Puts two words into a cell, and marks it exactly from the sweeper on.
     fn fill(&mut self, h: u32, car: Word, cdr: Word) -> Result<(), BankFault>
-        ensures state { meant limit cells coded valued floor self.new ≡ with_cell h car cdr (meant limit cells coded valued floor self.old) }
-        ensures answer { result ≡ filling (limit self.old.bank) (meant limit cells coded valued floor self.old).heap.cells h car cdr }
+        ensures state { meant B.limit B.cells K.coded K.valued R.floor self.new ≡ with_cell h car cdr (meant B.limit B.cells K.coded K.valued R.floor self.old) }
+        ensures answer { result ≡ filling (B.limit self.old.bank) (meant B.limit B.cells K.coded K.valued R.floor self.old).heap.cells h car cdr }
         ensures kind { self.new.kind ≡ self.old.kind }
         ensures rule { self.new.rule ≡ self.old.rule }
     {
@@ -251,8 +251,8 @@ impl<B: Bank, K: Kind, R: StartRule> Store<B, K, R> {
 
     // The head of the free list leaves it for register i, with two words.
     fn take(&mut self, work: u32, i: u32, car: Word, cdr: Word) -> Result<u32, StoreFault>
-        ensures state { meant limit cells coded valued floor self.new ≡ (take_from (self.old.count == 0) self.old.head work i car cdr (meant limit cells coded valued floor self.old)).state }
-        ensures answer { outcome_by Answer.Worked result ≡ (take_from (self.old.count == 0) self.old.head work i car cdr (meant limit cells coded valued floor self.old)).outcome }
+        ensures state { meant B.limit B.cells K.coded K.valued R.floor self.new ≡ (take_from (self.old.count == 0) self.old.head work i car cdr (meant B.limit B.cells K.coded K.valued R.floor self.old)).state }
+        ensures answer { outcome_by Answer.Worked result ≡ (take_from (self.old.count == 0) self.old.head work i car cdr (meant B.limit B.cells K.coded K.valued R.floor self.old)).outcome }
         ensures kind { self.new.kind ≡ self.old.kind }
         ensures rule { self.new.rule ≡ self.old.rule }
     {

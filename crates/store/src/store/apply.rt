@@ -24,10 +24,10 @@ fn done<V>(res: Result<(), StoreFault>) -> Outcome<V>
 impl<B: Bank, K: Kind, R: StartRule> Store<B, K, R> {
     // Makes a call.
     pub fn apply(&mut self, call: &Call<K::Value>) -> Outcome<K::Value>
-        ensures state { meant limit cells coded valued floor self.new ≡ (call_on (rule_says says self.old) (meant limit cells coded valued floor self.old) call.now).state }
-        ensures answer { result ≡ (call_on (rule_says says self.old) (meant limit cells coded valued floor self.old) call.now).outcome }
+        ensures state { meant B.limit B.cells K.coded K.valued R.floor self.new ≡ (call_on (rule_says R.says self.old) (meant B.limit B.cells K.coded K.valued R.floor self.old) call.now).state }
+        ensures answer { result ≡ (call_on (rule_says R.says self.old) (meant B.limit B.cells K.coded K.valued R.floor self.old) call.now).outcome }
         ensures kind { self.new.kind ≡ self.old.kind }
-        ensures rule { asks (meant limit cells coded valued floor self.old) call.now ≡ false → self.new.rule ≡ self.old.rule }
+        ensures rule { asks (meant B.limit B.cells K.coded K.valued R.floor self.old) call.now ≡ false → self.new.rule ≡ self.old.rule }
     {
         match call {
             Call::Load(i, value) => done(self.load(*i, value)),

@@ -16,8 +16,8 @@ use pacing::rule::StartRule;
 impl<B: Bank, K: Kind, R: StartRule> Store<B, K, R> {
     // Sets register i to the atom of a value.
     pub fn load(&mut self, i: u32, value: &K::Value) -> Result<(), StoreFault>
-        ensures state { meant limit cells coded valued floor self.new ≡ (call (rule_says says self.old) (meant limit cells coded valued floor self.old) (Call.Load i value.now)).state }
-        ensures answer { outcome_of result ≡ (call (rule_says says self.old) (meant limit cells coded valued floor self.old) (Call.Load i value.now)).outcome }
+        ensures state { meant B.limit B.cells K.coded K.valued R.floor self.new ≡ (call (rule_says R.says self.old) (meant B.limit B.cells K.coded K.valued R.floor self.old) (Call.Load i value.now)).state }
+        ensures answer { outcome_of result ≡ (call (rule_says R.says self.old) (meant B.limit B.cells K.coded K.valued R.floor self.old) (Call.Load i value.now)).outcome }
         ensures kind { self.new.kind ≡ self.old.kind }
         ensures rule { self.new.rule ≡ self.old.rule }
     {
@@ -30,8 +30,8 @@ impl<B: Bank, K: Kind, R: StartRule> Store<B, K, R> {
 
     // Sets register i to nil.
     pub fn clear(&mut self, i: u32) -> Result<(), StoreFault>
-        ensures state { meant limit cells coded valued floor self.new ≡ (call (rule_says says self.old) (meant limit cells coded valued floor self.old) (Call.Clear i)).state }
-        ensures answer { outcome_of result ≡ (call (rule_says says self.old) (meant limit cells coded valued floor self.old) (Call.Clear i)).outcome }
+        ensures state { meant B.limit B.cells K.coded K.valued R.floor self.new ≡ (call (rule_says R.says self.old) (meant B.limit B.cells K.coded K.valued R.floor self.old) (Call.Clear i)).state }
+        ensures answer { outcome_of result ≡ (call (rule_says R.says self.old) (meant B.limit B.cells K.coded K.valued R.floor self.old) (Call.Clear i)).outcome }
         ensures kind { self.new.kind ≡ self.old.kind }
         ensures rule { self.new.rule ≡ self.old.rule }
     {
@@ -42,8 +42,8 @@ impl<B: Bank, K: Kind, R: StartRule> Store<B, K, R> {
 
     // Sets register i to register a's word.
     pub fn copy(&mut self, i: u32, a: u32) -> Result<(), StoreFault>
-        ensures state { meant limit cells coded valued floor self.new ≡ (call (rule_says says self.old) (meant limit cells coded valued floor self.old) (Call.Copy i a)).state }
-        ensures answer { outcome_of result ≡ (call (rule_says says self.old) (meant limit cells coded valued floor self.old) (Call.Copy i a)).outcome }
+        ensures state { meant B.limit B.cells K.coded K.valued R.floor self.new ≡ (call (rule_says R.says self.old) (meant B.limit B.cells K.coded K.valued R.floor self.old) (Call.Copy i a)).state }
+        ensures answer { outcome_of result ≡ (call (rule_says R.says self.old) (meant B.limit B.cells K.coded K.valued R.floor self.old) (Call.Copy i a)).outcome }
         ensures kind { self.new.kind ≡ self.old.kind }
         ensures rule { self.new.rule ≡ self.old.rule }
     {
@@ -55,10 +55,10 @@ impl<B: Bank, K: Kind, R: StartRule> Store<B, K, R> {
 
     // Makes a turn, takes a free cell for register i and puts the words of a and b into it; the work of the turn.
     pub fn cons(&mut self, i: u32, a: u32, b: u32) -> Result<u32, StoreFault>
-        ensures state { meant limit cells coded valued floor self.new ≡ (call (rule_says says self.old) (meant limit cells coded valued floor self.old) (Call.Cons i a b)).state }
-        ensures answer { outcome_by Answer.Worked result ≡ (call (rule_says says self.old) (meant limit cells coded valued floor self.old) (Call.Cons i a b)).outcome }
+        ensures state { meant B.limit B.cells K.coded K.valued R.floor self.new ≡ (call (rule_says R.says self.old) (meant B.limit B.cells K.coded K.valued R.floor self.old) (Call.Cons i a b)).state }
+        ensures answer { outcome_by Answer.Worked result ≡ (call (rule_says R.says self.old) (meant B.limit B.cells K.coded K.valued R.floor self.old) (Call.Cons i a b)).outcome }
         ensures kind { self.new.kind ≡ self.old.kind }
-        ensures rule { asks (meant limit cells coded valued floor self.old) (Call.Cons i a b) ≡ false → self.new.rule ≡ self.old.rule }
+        ensures rule { asks (meant B.limit B.cells K.coded K.valued R.floor self.old) (Call.Cons i a b) ≡ false → self.new.rule ≡ self.old.rule }
     {
         self.registers.get(i)?;
         let car = self.registers.get(a)?;
@@ -69,8 +69,8 @@ impl<B: Bank, K: Kind, R: StartRule> Store<B, K, R> {
 
     // Copies the car of the cell in register a into register i.
     pub fn car(&mut self, i: u32, a: u32) -> Result<(), StoreFault>
-        ensures state { meant limit cells coded valued floor self.new ≡ (call (rule_says says self.old) (meant limit cells coded valued floor self.old) (Call.Car i a)).state }
-        ensures answer { outcome_of result ≡ (call (rule_says says self.old) (meant limit cells coded valued floor self.old) (Call.Car i a)).outcome }
+        ensures state { meant B.limit B.cells K.coded K.valued R.floor self.new ≡ (call (rule_says R.says self.old) (meant B.limit B.cells K.coded K.valued R.floor self.old) (Call.Car i a)).state }
+        ensures answer { outcome_of result ≡ (call (rule_says R.says self.old) (meant B.limit B.cells K.coded K.valued R.floor self.old) (Call.Car i a)).outcome }
         ensures kind { self.new.kind ≡ self.old.kind }
         ensures rule { self.new.rule ≡ self.old.rule }
     {
@@ -85,8 +85,8 @@ impl<B: Bank, K: Kind, R: StartRule> Store<B, K, R> {
 
     // Copies the cdr of the cell in register a into register i.
     pub fn cdr(&mut self, i: u32, a: u32) -> Result<(), StoreFault>
-        ensures state { meant limit cells coded valued floor self.new ≡ (call (rule_says says self.old) (meant limit cells coded valued floor self.old) (Call.Cdr i a)).state }
-        ensures answer { outcome_of result ≡ (call (rule_says says self.old) (meant limit cells coded valued floor self.old) (Call.Cdr i a)).outcome }
+        ensures state { meant B.limit B.cells K.coded K.valued R.floor self.new ≡ (call (rule_says R.says self.old) (meant B.limit B.cells K.coded K.valued R.floor self.old) (Call.Cdr i a)).state }
+        ensures answer { outcome_of result ≡ (call (rule_says R.says self.old) (meant B.limit B.cells K.coded K.valued R.floor self.old) (Call.Cdr i a)).outcome }
         ensures kind { self.new.kind ≡ self.old.kind }
         ensures rule { self.new.rule ≡ self.old.rule }
     {
@@ -101,8 +101,8 @@ impl<B: Bank, K: Kind, R: StartRule> Store<B, K, R> {
 
     // Puts register b's word into the car of the cell in register a.
     pub fn rplaca(&mut self, a: u32, b: u32) -> Result<(), StoreFault>
-        ensures state { meant limit cells coded valued floor self.new ≡ (call (rule_says says self.old) (meant limit cells coded valued floor self.old) (Call.Rplaca a b)).state }
-        ensures answer { outcome_of result ≡ (call (rule_says says self.old) (meant limit cells coded valued floor self.old) (Call.Rplaca a b)).outcome }
+        ensures state { meant B.limit B.cells K.coded K.valued R.floor self.new ≡ (call (rule_says R.says self.old) (meant B.limit B.cells K.coded K.valued R.floor self.old) (Call.Rplaca a b)).state }
+        ensures answer { outcome_of result ≡ (call (rule_says R.says self.old) (meant B.limit B.cells K.coded K.valued R.floor self.old) (Call.Rplaca a b)).outcome }
         ensures kind { self.new.kind ≡ self.old.kind }
         ensures rule { self.new.rule ≡ self.old.rule }
     {
@@ -119,8 +119,8 @@ impl<B: Bank, K: Kind, R: StartRule> Store<B, K, R> {
 
     // Puts register b's word into the cdr of the cell in register a.
     pub fn rplacd(&mut self, a: u32, b: u32) -> Result<(), StoreFault>
-        ensures state { meant limit cells coded valued floor self.new ≡ (call (rule_says says self.old) (meant limit cells coded valued floor self.old) (Call.Rplacd a b)).state }
-        ensures answer { outcome_of result ≡ (call (rule_says says self.old) (meant limit cells coded valued floor self.old) (Call.Rplacd a b)).outcome }
+        ensures state { meant B.limit B.cells K.coded K.valued R.floor self.new ≡ (call (rule_says R.says self.old) (meant B.limit B.cells K.coded K.valued R.floor self.old) (Call.Rplacd a b)).state }
+        ensures answer { outcome_of result ≡ (call (rule_says R.says self.old) (meant B.limit B.cells K.coded K.valued R.floor self.old) (Call.Rplacd a b)).outcome }
         ensures kind { self.new.kind ≡ self.old.kind }
         ensures rule { self.new.rule ≡ self.old.rule }
     {
@@ -137,8 +137,8 @@ impl<B: Bank, K: Kind, R: StartRule> Store<B, K, R> {
 
     // What register i holds.
     pub fn look(&self, i: u32) -> Result<Seen<K::Value>, StoreFault>
-        ensures state { meant limit cells coded valued floor self.now ≡ (call (rule_says says self.now) (meant limit cells coded valued floor self.now) (Call.Look i)).state }
-        ensures answer { outcome_by Answer.Saw result ≡ (call (rule_says says self.now) (meant limit cells coded valued floor self.now) (Call.Look i)).outcome }
+        ensures state { meant B.limit B.cells K.coded K.valued R.floor self.now ≡ (call (rule_says R.says self.now) (meant B.limit B.cells K.coded K.valued R.floor self.now) (Call.Look i)).state }
+        ensures answer { outcome_by Answer.Saw result ≡ (call (rule_says R.says self.now) (meant B.limit B.cells K.coded K.valued R.floor self.now) (Call.Look i)).outcome }
     {
         match self.registers.get(i)? {
             Word::Nil | Word::Reserved => Ok(Seen::Nil),
@@ -152,8 +152,8 @@ impl<B: Bank, K: Kind, R: StartRule> Store<B, K, R> {
 
     // Whether registers i and j hold two nils, one cell, or equal codes.
     pub fn same(&self, i: u32, j: u32) -> Result<bool, StoreFault>
-        ensures state { meant limit cells coded valued floor self.now ≡ (call (rule_says says self.now) (meant limit cells coded valued floor self.now) (Call.Same i j)).state }
-        ensures answer { outcome_by Answer.Same result ≡ (call (rule_says says self.now) (meant limit cells coded valued floor self.now) (Call.Same i j)).outcome }
+        ensures state { meant B.limit B.cells K.coded K.valued R.floor self.now ≡ (call (rule_says R.says self.now) (meant B.limit B.cells K.coded K.valued R.floor self.now) (Call.Same i j)).state }
+        ensures answer { outcome_by Answer.Same result ≡ (call (rule_says R.says self.now) (meant B.limit B.cells K.coded K.valued R.floor self.now) (Call.Same i j)).outcome }
     {
         let first = self.registers.get(i)?;
         let second = self.registers.get(j)?;

@@ -19,7 +19,7 @@ use pacing::rule::StartRule;
 impl<B: Bank, K: Kind, R: StartRule> Store<B, K, R> {
     // A new store, all of whose cells are free.
     pub fn new(mut bank: B, kind: K, rule: R, effort: Effort) -> Store<B, K, R>
-        ensures state { meant limit cells coded valued floor result ≡ new_state (fixed_by limit coded valued floor bank kind rule effort) (length (cells bank)) }
+        ensures state { meant B.limit B.cells K.coded K.valued R.floor result ≡ new_state (fixed_by B.limit K.coded K.valued R.floor bank kind rule effort) (length (B.cells bank)) }
         ensures kind { result.kind ≡ kind }
         ensures rule { result.rule ≡ rule }
     {
@@ -60,33 +60,33 @@ impl<B: Bank, K: Kind, R: StartRule> Store<B, K, R> {
     }
 
     pub fn phase(&self) -> Phase
-        ensures { result ≡ (meant limit cells coded valued floor self.now).phase }
+        ensures { result ≡ (meant B.limit B.cells K.coded K.valued R.floor self.now).phase }
     {
         self.phase
     }
 
     pub fn sweeper(&self) -> u32
-        ensures { result ≡ (meant limit cells coded valued floor self.now).pool.sweeper }
+        ensures { result ≡ (meant B.limit B.cells K.coded K.valued R.floor self.now).pool.sweeper }
     {
         self.sweeper
     }
 
     pub fn free_count(&self) -> u32
-        ensures { result ≡ (meant limit cells coded valued floor self.now).pool.count }
+        ensures { result ≡ (meant B.limit B.cells K.coded K.valued R.floor self.now).pool.count }
     {
         self.count
     }
 
     // The word of a register.
     pub fn register(&self, r: u32) -> Result<Word, StoreFault>
-        ensures { result ≡ (if nat_lt r 16 then Ok (register_of (meant limit cells coded valued floor self.now).registers r) else Err (StoreFault.NoRegister r)) }
+        ensures { result ≡ (if nat_lt r 16 then Ok (register_of (meant B.limit B.cells K.coded K.valued R.floor self.now).registers r) else Err (StoreFault.NoRegister r)) }
     {
         self.registers.get(r)
     }
 
     // A cell of the bank.
     pub fn cell(&self, n: u32) -> Result<Cell, BankFault>
-        ensures { result ≡ asked (meant limit cells coded valued floor self.now).heap.cells n }
+        ensures { result ≡ asked (meant B.limit B.cells K.coded K.valued R.floor self.now).heap.cells n }
     {
         self.bank.cell(n)
     }

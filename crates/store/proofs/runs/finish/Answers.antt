@@ -39,7 +39,7 @@ returns-in-Err g c =
         run-next fixed size (grounded-new fixed size (m x) e ground) c.args.calls.now c.loop-call.call-index (vec_items c.loop-call.outcomes) (vec_items c.push.new.self ++ c.in-Err.refused.value ∷ [])
             (m s) (m c.apply-outcome.new.self) c.call-item.result c.apply-outcome.result (rule_says g.R.StartRule.says s)
             c.loop-call-test.true c.call-item.is
-            (ap (λ os. os ++ c.in-Err.refused.value ∷ []) p.items ∙ ap (λ o. vec_items c.loop-call.outcomes ++ o ∷ []) p.refused)
+            (ap (λ os. os ++ c.in-Err.refused.value ∷ []) p.items ∙ ap (λ o. vec_items c.loop-call.outcomes ++ o ∷ []) p.value_returned)
             (λ idle low. g.R.StartRule.lawful s.rule s.count low)
             c.apply-outcome.ensures.state c.apply-outcome.ensures.answer (c.loop-call.invariant.0 fixed size e),
       );

@@ -6,8 +6,8 @@ use Rattle.store.specs.Stacks.{waiting_of}
 use Rattle.store.proofs.Heaps.{scans-more, scanned-more, latest-few, left-all, left-none}
 use Rattle.store.proofs.store.Store.scans.Goals as goal
 
-pub overflow-add-popped : goal.overflow-add-popped
-overflow-add-popped g c = let one = latest-few (waiting_of c.loop.self.waiting) in let r = c.scan-popped.ensures.popped in omega arith
+pub overflow_add-popped : goal.overflow_add-popped
+overflow_add-popped g c = let one = latest-few (waiting_of c.loop.self.waiting) in let r = c.scan-popped.ensures.popped in omega arith
 
 pub loop-init : goal.loop-init
 loop-init g c =

@@ -6,8 +6,8 @@ use Rattle.collector.specs.Turns.{is_reserved}
 use Rattle.store.proofs.Sweeps.{treat-sweeper, sweep-done, swept-one}
 use Rattle.store.proofs.store.Store.sweep.Goals as goal
 
-pub overflow-add-self : goal.overflow-add-self
-overflow-add-self g c =
+pub overflow_add-self : goal.overflow_add-self
+overflow_add-self g c =
     let few = (g.B.Bank.sound c.args.self.now.bank).few in
     let within = (asked-ok _ _ _ (sym c.in-Ok.is ∙ c.cell.ensures)).0 in
     let stays : c.treat.new.self.sweeper ≡ c.args.self.now.sweeper = ap (λ (s : State _). s.pool.sweeper) c.treat.ensures.state ∙ treat-sweeper c.in-Ok.cell.mark (is_reserved c.in-Ok.cell.cdr) _ _ _ in

@@ -6,8 +6,8 @@ use Rattle.store.proofs.Heaps.{left-all, left-none}
 use Rattle.store.proofs.Sweeps.{sweeps-more, swept-more, swept-few}
 use Rattle.store.proofs.store.Store.sweeps.Goals as goal
 
-pub overflow-add-swept : goal.overflow-add-swept
-overflow-add-swept g c =
+pub overflow_add-swept : goal.overflow_add-swept
+overflow_add-swept g c =
     let one = swept-few (ltb c.loop.self.sweeper (length (g.B.Bank.cells c.loop.self.bank))) in
     let r = c.sweep-swept.ensures.swept in
     omega arith
