@@ -7,7 +7,7 @@ use Rattle.replies.proofs.session.serve.Goals as goal
 pub returns : goal.returns
 returns c =
     let slice = c.as_mut_slice.result.now in
-    let made-len = c.in_ok-memory.ensures.made in
+    let made-len = c.in_ok-memory.ensures.len in
     let lent = c.as_mut_slice.ensures.len in
     let size = c.min-size.ensures in
     let whole : min 4096 (length slice) ≡ min c.args.cells 4096 = omega arith in
