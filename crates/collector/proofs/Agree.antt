@@ -3,7 +3,6 @@ use Rattle.std.proofs.Common.{◌≡◌, ℕ, zero, suc, ◌<◌, ◌≤◌, Lis
 use Rattle.std.proofs.lemmas.List.{map-set}
 use Rattle.std.proofs.lemmas.Bool.{cases_eq, eq-eqb, ne_eqb}
 use Rattle.bank.specs.declared.word.Word.{Word}
-use Rattle.bank.specs.declared.word.Cell.{Cell}
 use Rattle.collector.specs.Lists.{Mem, Distinct, Each, AtMost}
 use Rattle.collector.specs.States.{Atoms, State, at}
 use Rattle.collector.specs.Outcomes.{register, seen, same_word}

@@ -6,7 +6,6 @@ use Rattle.collector.specs.States.{State, at, size}
 use Rattle.collector.specs.Turns.{turn_in, turn}
 use Rattle.collector.specs.Outcomes.{registers_of, absent}
 use Rattle.collector.specs.Runs.{Event, next, Collection, onward_in, onward_if, onward}
-use Rattle.collector.proofs.Same.{Same}
 use Rattle.collector.proofs.Turn.{Used, begun-marked, mark-marked, sweep-swept}
 use Rattle.collector.proofs.Steps.{step_keeps}
 use Rattle.collector.proofs.Invariant.{Inv}

@@ -14,12 +14,12 @@ use Rattle.collector.specs.declared.phase.Phase.{Phase}
 use Rattle.collector.specs.States.{Heap, State, at, dead, roots}
 use Rattle.collector.specs.Turns.{offer, turn, work}
 use Rattle.collector.specs.Outcomes.{After, refuse, done, answer, registers_of, absent, register}
-use Rattle.collector.specs.Calls.{with_register, with_heap, with_pool, with_cells, load_if, unlinked, take_if, take_from, take, read_from, read_by, offer_in, write, replace_from, replace_by, replace, car_of, cdr_of, perform, checked, call}
+use Rattle.collector.specs.Calls.{with_register, with_heap, with_pool, with_cells, load_if, unlinked, take_if, take_from, take, read_from, read_by, offer_in, write, replace_from, replace_by, replace, car_of, cdr_of, perform, checked}
 use Rattle.collector.specs.Reach.{Reachable, Free}
 use Rattle.collector.specs.Runs.{Event, next, Collection, onward_in, onward_if, onward}
 use Rattle.collector.specs.Laws.{Grounded}
 use Rattle.collector.proofs.Sets.{each-get_or, each_set, each_map}
-use Rattle.collector.proofs.Same.{Same, Grown, grown-refl, done-grown, core-same, live_same, sound-map}
+use Rattle.collector.proofs.Same.{Grown, grown-refl, done-grown, core-same, live_same, sound-map}
 use Rattle.collector.proofs.Mark.{offer-marks}
 use Rattle.collector.proofs.Take.{sound-fits, dones-marks, filled-plain, filled_is, filling-is, first-free, Taking, within-h, taken-core, taken-length, taken-sweeping, taken-marking, grows}
 use Rattle.collector.proofs.Replace.{Replacing, replaced-core, replaced-length, replaced-sweeping, replaced-marking, replaced-grows}

@@ -1,12 +1,11 @@
 -- A short run, worked out by the definitions.
-use Rattle.std.specs.Prelude.{◌≡◌, ℕ, Bool, true, false, List, [], ◌∷◌, Some, Ok, Err, nat_le}
+use Rattle.std.specs.Prelude.{◌≡◌, ℕ, true, List, [], ◌∷◌, Some, Ok, Err, nat_le}
 use Rattle.collector.specs.declared.call.Answer.{Answer}
 use Rattle.collector.specs.declared.call.Call.{Call}
 use Rattle.collector.specs.declared.call.Seen.{Seen}
 use Rattle.collector.specs.declared.fault.StoreFault.{StoreFault}
-use Rattle.collector.specs.Outcomes.{Outcome}
 use Rattle.collector.specs.Runs.{Event, next, outcomes}
-use Rattle.collector.specs.States.{Fixed, State, new}
+use Rattle.collector.specs.States.{State, new}
 
 -- A store of three cells over atoms that are their own codes: one scan or sweep a turn, floor 1.
 abbrev pub three_cells : State ℕ

@@ -1,5 +1,5 @@
 -- A write through a window.
-use Rattle.std.proofs.Common.{◌≡◌, ℕ, zero, suc, ◌+◌, ◌-◌, ◌<◌, ◌≤◌, min, Bool, true, false, cond, List, [], ◌∷◌, ◌++◌, length, get_or, take, drop, set, Result, sym, refl, ap, ◌∙◌, arith}
+use Rattle.std.proofs.Common.{◌≡◌, ℕ, ◌+◌, ◌-◌, ◌<◌, min, Bool, true, false, cond, List, ◌++◌, length, get_or, take, drop, set, Result, sym, ap, ◌∙◌, arith}
 use native.Mathlib.Nat.{min_comm}
 use Rattle.std.proofs.lemmas.List.{length-take, length-drop, get_or-take, get_or-drop, take-append-drop, drop-drop, take-set-le, drop-set-lt, drop-set-add}
 use Rattle.bank.specs.declared.word.Cell.{Cell}

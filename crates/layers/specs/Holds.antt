@@ -1,5 +1,5 @@
 -- Cells kept in 16 places over a list of cells. Place i is for the cells n with n mod 16 = i; it keeps a cell with its row, n div 16.
-use Rattle.std.specs.Prelude.{◌≡◌, ℕ, suc, ◌+◌, ◌*◌, ◌/◌, ◌%◌, Bool, cond, List, [], ◌∷◌, length, replicate, ◌==◌, slice_index_or, refl}
+use Rattle.std.specs.Prelude.{◌≡◌, ℕ, suc, ◌+◌, ◌*◌, ◌/◌, ◌%◌, cond, List, [], ◌∷◌, length, replicate, ◌==◌, slice_index_or, refl}
 use Rattle.std.proofs.Common.{ap}
 use Rattle.bank.specs.declared.word.Word.{Word}
 use Rattle.bank.specs.declared.word.Cell.{Cell}

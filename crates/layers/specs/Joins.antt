@@ -1,5 +1,5 @@
 -- Two lists of cells as one.
-use Rattle.std.specs.Prelude.{ℕ, ◌-◌, min, cond, List, ◌++◌, length, take, drop, nat_lt}
+use Rattle.std.specs.Prelude.{ℕ, ◌-◌, min, cond, List, ◌++◌, take, drop, nat_lt}
 use Rattle.std.proofs.Common.{arith, length-take}
 use Rattle.bank.specs.declared.word.Cell.{Cell}
 use Rattle.bank.specs.Banks.{Sound}

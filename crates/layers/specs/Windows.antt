@@ -1,5 +1,5 @@
 -- A window on a list of cells.
-use Rattle.std.specs.Prelude.{ℕ, ◌+◌, List, ◌++◌, length, take, drop}
+use Rattle.std.specs.Prelude.{ℕ, ◌+◌, List, ◌++◌, take, drop}
 use Rattle.std.proofs.Common.{arith, length-take, length-drop}
 use Rattle.bank.specs.declared.word.Cell.{Cell}
 use Rattle.bank.specs.Banks.{Sound}

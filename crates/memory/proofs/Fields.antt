@@ -1,5 +1,5 @@
 -- Bit fields of any width, and that a packed cell reads back.
-use Rattle.std.proofs.Common.{◌≡◌, ℕ, zero, suc, ◌+◌, ◌-◌, ◌*◌, ◌/◌, ◌%◌, ◌^◌, ◌<◌, ◌≤◌, Bool, true, false, cond, eqb, leb, sym, refl, ap, ◌∙◌, mod-eq_of_lt, mul_comm, div-one, arith}
+use Rattle.std.proofs.Common.{◌≡◌, ℕ, zero, suc, ◌+◌, ◌-◌, ◌*◌, ◌/◌, ◌%◌, ◌^◌, ◌<◌, ◌≤◌, Bool, true, false, eqb, sym, refl, ap, ◌∙◌, mod-eq_of_lt, div-one, arith}
 use lib.Bits.{bit_and, bit_or}
 use Rattle.std.proofs.lemmas.Nat.{pow_pos, and_mask, or_shifted, one_shl, shr-shr, shr_high, mod_low, mod_below}
 use Rattle.std.proofs.lemmas.Bool.{leb-true, le-leb}

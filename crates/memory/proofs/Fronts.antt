@@ -1,8 +1,8 @@
 -- The elements of a memory that hold cells, under a write and when they are cleared.
-use Rattle.std.proofs.Common.{◌≡◌, ℕ, zero, suc, ◌+◌, ◌<◌, ◌≤◌, min, List, [], ◌∷◌, ◌++◌, length, get_or, take, drop, set, replicate, sym, refl, ap, ◌∙◌, inl, inr, arith}
+use Rattle.std.proofs.Common.{◌≡◌, ℕ, ◌<◌, ◌≤◌, min, List, [], ◌++◌, length, get_or, take, drop, set, replicate, sym, ap, ◌∙◌, inl, inr, arith}
 use native.Mathlib.Nat.{min_comm}
 use Rattle.std.proofs.lemmas.Bool.{cases_lt}
-use Rattle.std.proofs.lemmas.List.{length-take, length-set, length-replicate, get_or-take, take-append-drop, set-append_left, take_at, take_all, drop_all, append-nil}
+use Rattle.std.proofs.lemmas.List.{length-take, length-replicate, get_or-take, take-append-drop, set-append_left, take_at, take_all, drop_all, append-nil}
 use Rattle.bank.proofs.Writes.{take-set-any}
 use Rattle.memory.specs.Memories.{front, over, cleared}
 

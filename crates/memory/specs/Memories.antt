@@ -1,5 +1,5 @@
 -- A lent memory of any elements: those that hold cells, and the later ones.
-use Rattle.std.specs.Prelude.{ℕ, min, List, ◌++◌, length, take, drop, replicate}
+use Rattle.std.specs.Prelude.{min, List, ◌++◌, length, take, drop, replicate}
 
 -- The elements that hold cells: the first 4,096.
 unfoldable pub front : {X : Type 0} → List X → List X

@@ -1,6 +1,6 @@
 -- A cell as one number: the car in bits 0 to 29, the cdr in bits 30 to 59, the mark in bit 60, zeros above.
 -- Of a word the number lies in bits 0 to 27, and its kind above them.
-use Rattle.std.specs.Prelude.{◌≡◌, ℕ, zero, suc, ◌+◌, ◌*◌, ◌/◌, ◌%◌, ◌^◌, ◌<◌, Bool, true, false, cond, Ok, Err, Result, ◌==◌}
+use Rattle.std.specs.Prelude.{◌≡◌, ℕ, zero, suc, ◌+◌, ◌*◌, ◌/◌, ◌%◌, ◌^◌, Bool, true, cond, Ok, Result, ◌==◌}
 use Rattle.bank.specs.declared.word.Word.{Word}
 use Rattle.bank.specs.declared.word.Cell.{Cell}
 use Rattle.bank.specs.declared.fault.BankFault.{BankFault}

@@ -1,6 +1,6 @@
-use Rattle.std.proofs.Common.{◌≡◌, ◌/◌, ◌%◌, ◌<◌, length, get_or, set, sym, ap, ◌∙◌, arith}
+use Rattle.std.proofs.Common.{◌/◌, ◌%◌, ◌<◌, length, set, ap, ◌∙◌, arith}
 use Rattle.layers.specs.declared.places.Place.{Place}
-use Rattle.layers.specs.Holds.{held, evicted}
+use Rattle.layers.specs.Holds.{held}
 use Rattle.layers.proofs.Holding.{keep-shows}
 use Rattle.layers.proofs.hold.Hold.keep.Goals as goal
 

@@ -1,4 +1,4 @@
-use Rattle.std.proofs.Common.{◌≡◌, ◌+◌, ◌*◌, get_or, set, sym, ap, ◌∙◌, rules}
+use Rattle.std.proofs.Common.{◌+◌, ◌*◌, get_or, set, sym, ap, ◌∙◌, rules}
 use Rattle.std.proofs.lemmas.List.{set-get_or}
 use Rattle.bank.specs.Banks.{changed}
 use Rattle.layers.specs.declared.places.Place.{Place}

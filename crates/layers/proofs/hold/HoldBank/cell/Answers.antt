@@ -1,4 +1,4 @@
-use Rattle.std.proofs.Common.{◌≡◌, ◌<◌, ◌≤◌, length, get_or, Ok, sym, ap, ◌∙◌, arith, rules}
+use Rattle.std.proofs.Common.{◌<◌, ◌≤◌, length, get_or, Ok, sym, ap, ◌∙◌, arith, rules}
 use Rattle.bank.specs.declared.word.Cell.{Cell}
 use Rattle.bank.specs.Words.{blank}
 use Rattle.bank.proofs.Laws.{asked-ok, on_cell-refused, on_cell-here, on_cell-past}

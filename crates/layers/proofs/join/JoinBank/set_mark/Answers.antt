@@ -1,4 +1,4 @@
-use Rattle.std.proofs.Common.{◌≡◌, min, true, false, length, Ok, sym, ap, ◌∙◌, rules}
+use Rattle.std.proofs.Common.{min, true, length, Ok, ap, rules}
 use Rattle.bank.specs.Words.{with_mark}
 use Rattle.bank.proofs.Laws.{on_cell-told, on_cell-refused, on_cell-past}
 use Rattle.layers.specs.Joins.{joined, side_of}

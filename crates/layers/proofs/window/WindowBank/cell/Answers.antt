@@ -1,4 +1,4 @@
-use Rattle.std.proofs.Common.{◌≡◌, ◌+◌, get_or, Ok, ap, ◌∙◌}
+use Rattle.std.proofs.Common.{◌+◌, get_or, Ok, ap, ◌∙◌}
 use Rattle.bank.specs.Words.{blank}
 use Rattle.bank.specs.Banks.{on_cell, asked}
 use Rattle.bank.proofs.Laws.{on_cell-told}

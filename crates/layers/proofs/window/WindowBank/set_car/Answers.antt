@@ -1,4 +1,4 @@
-use Rattle.std.proofs.Common.{◌+◌, true, Ok, sym, ap, ◌∙◌, rules}
+use Rattle.std.proofs.Common.{◌+◌, Ok, ap, ◌∙◌, rules}
 use Rattle.bank.specs.Words.{with_car}
 use Rattle.bank.specs.Banks.{fits, taken, word_taken}
 use Rattle.bank.proofs.Laws.{on_cell-told, on_cell-refused, on_cell-past, put-past}

@@ -1,4 +1,4 @@
-use Rattle.std.proofs.Common.{◌<◌, length, get_or, Ok, sym, ap, ◌∙◌, arith}
+use Rattle.std.proofs.Common.{◌<◌, length, get_or, Ok, ap, ◌∙◌, arith}
 use Rattle.bank.specs.Words.{blank}
 use Rattle.bank.proofs.Laws.{on_cell-here}
 use Rattle.memory.specs.Memories.{front}
