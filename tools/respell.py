@@ -22,6 +22,7 @@ OWN = {
     "isEffort": "dec_effort",
     "putE": "put_pair",
     "getD": "get_or",
+    "get_d_front": "get_or-front",
     "zone-at": "zone_at-parts",
     "zone-if": "zone_if-parts",
     "Exact-if": "ExactIf",

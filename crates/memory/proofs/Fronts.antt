@@ -13,9 +13,9 @@ length_front m = length-take 4096 m ∙ min_comm 4096 (length m)
 pub within-front : {X : Type 0} (m : List X) (n : ℕ) → n < length (front m) → n < length m
 within-front m n h = omega (arith, length_front m)
 
-pub get_d_front : {X : Type 0} (m : List X) (n : ℕ) (d : X) → n < length (front m) → get_or m n d ≡ get_or (front m) n d
+pub get_or-front : {X : Type 0} (m : List X) (n : ℕ) (d : X) → n < length (front m) → get_or m n d ≡ get_or (front m) n d
 unfolding front
-get_d_front m n d h = sym (get_or-take 4096 m n d (omega (arith, length_front m)))
+get_or-front m n d h = sym (get_or-take 4096 m n d (omega (arith, length_front m)))
 
 pub over-front : {X : Type 0} (m : List X) → m ≡ over (front m) m
 unfolding front over

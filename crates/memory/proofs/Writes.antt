@@ -8,7 +8,7 @@ use Rattle.memory.specs.Memories.{front, cleared}
 use Rattle.memory.specs.Packing.{packed, unpacked, Narrow}
 use Rattle.memory.specs.Packs.{shown, Packed, stored}
 use Rattle.memory.proofs.Fields.{reads-back, read-narrow}
-use Rattle.memory.proofs.Fronts.{front-set, set-over, get_d_front, front-cleared}
+use Rattle.memory.proofs.Fronts.{front-set, set-over, get_or-front, front-cleared}
 
 pub length-shown : (m : List ℕ) → length (shown m) ≡ length (front m)
 unfolding shown
@@ -16,7 +16,7 @@ length-shown m = length-map (front m) unpacked
 
 pub get_or-shown : (m : List ℕ) (n : ℕ) → n < length (front m) → unpacked (get_or m n 0) ≡ get_or (shown m) n blank
 unfolding shown
-get_or-shown m n h = ap unpacked (get_d_front m n 0 h) ∙ sym (get_or-map unpacked (front m) n 0 blank h)
+get_or-shown m n h = ap unpacked (get_or-front m n 0 h) ∙ sym (get_or-map unpacked (front m) n 0 blank h)
 
 -- Writing the packing of c at n is writing c at n.
 pub shown-set : (m : List ℕ) (n : ℕ) (c : Cell) → Narrow c → n < length (front m) → shown (set m n (packed c)) ≡ set (shown m) n c

@@ -1,5 +1,5 @@
 -- The replies to a plan's lines, and how they are written.
-use Rattle.std.specs.Prelude.{ℕ, true, false, List, [], ◌∷◌, ◌++◌, Ok, Err, codes, decimal, Result}
+use Rattle.std.specs.Prelude.{ℕ, true, false, List, [], ◌∷◌, ◌++◌, Ok, Err, codes, decimal}
 use Rattle.atoms.specs.declared.zone.Zone.{Zone}
 use Rattle.atoms.specs.Refusals.{spoken}
 use Rattle.atoms.specs.Zones.{pair_text}

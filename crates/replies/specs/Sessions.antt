@@ -1,5 +1,5 @@
 -- What is answered to a plan: the replies to its lines, from a run of a store of its own, and the text that is printed.
-use Rattle.std.specs.Prelude.{◌≡◌, ℕ, min, Bool, true, false, List, [], ◌∷◌, ◌++◌, Some, None, codes, decimal, Option}
+use Rattle.std.specs.Prelude.{◌≡◌, ℕ, min, List, [], ◌∷◌, ◌++◌, Some, None, codes, decimal, Option}
 use Rattle.atoms.specs.declared.zone.Zone.{Zone}
 use Rattle.atoms.specs.Zones.{zone_code, zone_of}
 use Rattle.collector.specs.Laws.{RunOf}

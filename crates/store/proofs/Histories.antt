@@ -7,7 +7,7 @@ use Rattle.collector.specs.declared.call.Call.{Call}
 use Rattle.collector.specs.States.{Fixed, State, new, size}
 use Rattle.collector.specs.Outcomes.{Outcome}
 use Rattle.collector.specs.Calls.{call as call_on}
-use Rattle.collector.specs.Runs.{outcome, Keeps}
+use Rattle.collector.specs.Runs.{Keeps}
 use Rattle.collector.specs.Laws.{Grounded}
 use Rattle.collector.proofs.Extend.{run-begins, run-extends}
 use Rattle.collector.proofs.Start.{linked-length}

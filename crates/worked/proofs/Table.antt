@@ -1,5 +1,5 @@
 -- The table, computed, and the bound as a test. Assumes nothing.
-use Rattle.std.proofs.Common.{◌≡◌, refl, arith}
+use Rattle.std.proofs.Common.{refl}
 use Rattle.std.proofs.lemmas.Bool.{and_parts, and_from, leb-true, le-leb}
 use native.Mathlib.Decide.{dec_le}
 use Rattle.layers.specs.Joins.{joined}

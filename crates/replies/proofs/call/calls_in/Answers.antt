@@ -1,4 +1,4 @@
-use Rattle.std.proofs.Common.{◌≡◌, [], ◌∷◌, ◌++◌, Some, None, Ok, vec_items, sym, ap, ◌∙◌, append-nil}
+use Rattle.std.proofs.Common.{[], ◌++◌, Ok, vec_items, sym, ap, ◌∙◌, append-nil}
 use Rattle.replies.specs.Requests.{calls_with}
 use Rattle.replies.proofs.Rows.{calls-more, calls-all}
 use Rattle.replies.proofs.call.calls_in.Goals as goal

@@ -1,4 +1,4 @@
-use Rattle.std.proofs.Common.{◌≡◌, [], ◌∷◌, ◌++◌, Ok, Err, vec_items, sym, refl, ap, ◌∙◌}
+use Rattle.std.proofs.Common.{[], ◌∷◌, ◌++◌, Ok, Err, vec_items, sym, refl, ap, ◌∙◌}
 use Rattle.replies.proofs.Rows.{replies-more, replies-all, one-refused, asks-answered, asks-unanswered, asks_nothing}
 use Rattle.replies.proofs.call.replies_by.Goals as goal
 use Rattle.replies.proofs.call.replies_by.Goals.{then-is_some+then-next-outcomes+in_ok-push, else-is_some, else-is_some-via-then-is_some+else-next-outcomes, else-is_some-via-else-is_some}

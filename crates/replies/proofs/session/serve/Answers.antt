@@ -1,4 +1,4 @@
-use Rattle.std.proofs.Common.{◌≡◌, ℕ, min, length, IfOk, vec_items, vec_len, sym, ap, ◌∙◌, subst, arith}
+use Rattle.std.proofs.Common.{◌≡◌, ℕ, min, length, IfOk, vec_items, ap, ◌∙◌, subst, arith}
 use lib.ListN.{length-replicate}
 use Rattle.bank.specs.Words.{blank}
 use Rattle.replies.specs.Sessions.{Served}

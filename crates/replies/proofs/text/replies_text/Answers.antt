@@ -1,4 +1,4 @@
-use Rattle.std.proofs.Common.{◌≡◌, ◌++◌, string_bytes, sym, ap, ◌∙◌}
+use Rattle.std.proofs.Common.{◌++◌, string_bytes, ap, ◌∙◌}
 use Rattle.replies.specs.Replies.{line_of}
 use Rattle.replies.proofs.Rows.{text-more, text-all}
 use Rattle.replies.proofs.text.replies_text.Goals as goal

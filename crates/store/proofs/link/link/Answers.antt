@@ -1,4 +1,4 @@
-use Rattle.std.proofs.Common.{◌≡◌, ◌-◌, ◌≤◌, length, sym, refl, ap, ◌∙◌, arith}
+use Rattle.std.proofs.Common.{◌≡◌, ◌≤◌, length, sym, refl, ap, ◌∙◌, arith}
 use Rattle.collector.specs.States.{linked}
 use Rattle.store.proofs.Links.{link-more, link-length, link-all}
 use Rattle.store.proofs.link.link.Goals as goal

@@ -1,4 +1,4 @@
-use Rattle.std.proofs.Common.{ℕ, ◌-◌, ltb, length, sym, refl, ap, ◌∙◌, arith}
+use Rattle.std.proofs.Common.{ℕ, ltb, length, sym, refl, ap, ◌∙◌, arith}
 use Rattle.collector.specs.Turns.{sweeps, ground}
 use Rattle.store.specs.Meaning.{meant}
 use Rattle.store.specs.Steps.{with_ground}
