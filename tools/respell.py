@@ -4,12 +4,13 @@
 usage: python3 tools/respell.py     at the top of the repository, once, after the kit's port.py
 
 Text alone is changed: crates/*/{src,specs,proofs}, the must-fail edits, and the code words of README.md and docs/.
-Functions of src/ keep their names. A word of specs/ that would take the name of such a function gets one of its own (OWN)."""
+Functions of src/ keep their names. OWN has the words that get a name of their own: where the turned one would stand beside
+a function of src/ that its clause speaks of in other words, is a tactic's, or says less than the word means."""
 import os
 import re
 import sys
 
-# Words that get a name of their own: they would fall together with a function of src/, or they name a decision.
+# Words that get a name of their own.
 OWN = {
     "callsIn": "calls_of_lines",
     "repliesBy": "replies_of_lines",
@@ -22,6 +23,8 @@ OWN = {
     "isEffort": "dec_effort",
     "putE": "put_pair",
     "getD": "get_or",
+    "firstOf": "first_word",
+    "secondOf": "second_word",
     "get_d_front": "get_or-front",
     "zone-at": "zone_at-parts",
     "zone-if": "zone_if-parts",

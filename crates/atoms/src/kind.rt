@@ -10,7 +10,7 @@ pub trait Kind {
 
     ghost valued: { Self → ℕ → Option Self.Value };
 
-    // A member and not a `law`, so that a kind with a lifetime parameter can give it.
+    // Above the methods, where it is a member that clauses and other members can name, and not below them as a law.
     ghost lawful: { (k : Self) → Lawful (coded k) (valued k) };
 
     fn code(&self, value: &Self::Value) -> u32

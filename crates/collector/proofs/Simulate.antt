@@ -14,7 +14,7 @@ use Rattle.collector.specs.States.{Fixed, State, at, new}
 use Rattle.collector.specs.Turns.{turn, work}
 use Rattle.collector.specs.Outcomes.{Outcome, After, done, answer, registers_of, absent, register, seen, same_word}
 use Rattle.collector.specs.Calls.{load_if, take, read_from, read_by, replace_by, car_of, cdr_of, perform, checked, with_register}
-use Rattle.collector.specs.Endless.{Pair, Endless, start, pair_at, named, first_of, second_of, with_first, with_second, feed, load_if as endless-load_if, read as endless-read, replace as endless-replace, perform as endless-perform, checked as endless-checked}
+use Rattle.collector.specs.Endless.{Pair, Endless, start, pair_at, named, first_word, second_word, with_first, with_second, feed, load_if as endless-load_if, read as endless-read, replace as endless-replace, perform as endless-perform, checked as endless-checked}
 use Rattle.collector.specs.Reach.{root, via, Reachable, ReachableIn}
 use Rattle.collector.specs.Runs.{Event, next, outcome, outcomes, calls_of, Collection, beginning, onward_in, onward}
 use Rattle.collector.specs.Laws.{Grounded, lacks, unless, remaining, fed_calls, endless_outcomes, without_work, AnswersEqual}
@@ -156,11 +156,11 @@ perform-meets f e c s i g says (Call.Cons r a b) =
     subst (λ atoms. Meets f e (take (work s) r a b (turn says s)) (endless-perform atoms e (Call.Cons r a b))) (ap (λ fx. fx.atoms) m.fixed)
     (take_meets f e (onward_in s.phase says s c) (turn says s) (turn-keeps says c s i) (agree-moved f e s (turn says s) g (moved-reachable c s (turn says s) i m)) (work s) r a b)
 perform-meets f e c s i g says (Call.Car r a) =
-    subst (λ (w : Word). Meets f e (read_by car_of w r a s) (endless-read first_of (register e.registers a) r a e)) (sym (register-agrees f e s g a))
-    (read_meets f e c s i g car_of first_of g.firsts (λ x y h v. via h (inl v)) r a (register e.registers a) refl)
+    subst (λ (w : Word). Meets f e (read_by car_of w r a s) (endless-read first_word (register e.registers a) r a e)) (sym (register-agrees f e s g a))
+    (read_meets f e c s i g car_of first_word g.firsts (λ x y h v. via h (inl v)) r a (register e.registers a) refl)
 perform-meets f e c s i g says (Call.Cdr r a) =
-    subst (λ (w : Word). Meets f e (read_by cdr_of w r a s) (endless-read second_of (register e.registers a) r a e)) (sym (register-agrees f e s g a))
-    (read_meets f e c s i g cdr_of second_of g.seconds (λ x y h v. via h (inr v)) r a (register e.registers a) refl)
+    subst (λ (w : Word). Meets f e (read_by cdr_of w r a s) (endless-read second_word (register e.registers a) r a e)) (sym (register-agrees f e s g a))
+    (read_meets f e c s i g cdr_of second_word g.seconds (λ x y h v. via h (inr v)) r a (register e.registers a) refl)
 perform-meets f e c s i g says (Call.Rplaca a b) =
     subst (λ (w : Word). Meets f e (replace_by car_of with_car w a (register s.registers b) s) (endless-replace (with_first (register e.registers b)) (register e.registers a) a e)) (sym (register-agrees f e s g a))
     (replace_meets f e c s i g car_of with_car car-field with_first car-twins a b (register e.registers a) refl)

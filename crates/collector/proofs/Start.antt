@@ -4,7 +4,7 @@ use Rattle.std.proofs.lemmas.Bool.{cases_eq}
 use Rattle.bank.specs.declared.word.Word.{Word}
 use Rattle.bank.specs.declared.word.Cell.{Cell}
 use Rattle.collector.specs.Lists.{Mem, Distinct, Each}
-use Rattle.collector.specs.States.{Fixed, State, at, first_of, linked, new, size}
+use Rattle.collector.specs.States.{Fixed, State, at, first_word, linked, new, size}
 use Rattle.collector.specs.Reach.{Reach, root, via, Reachable, Free}
 use Rattle.collector.specs.Runs.{beginning}
 use Rattle.collector.specs.Laws.{Grounded}
@@ -14,7 +14,7 @@ use Rattle.collector.proofs.Invariant.{Vacant, Sound, Links, Listed, Live, Inv}
 
 -- A free cell of a new store, by what follows it.
 abbrev fresh : ℕ → ℕ → Cell
-fresh n k = record { car = first_of n k; cdr = Word.Reserved; mark = false }
+fresh n k = record { car = first_word n k; cdr = Word.Reserved; mark = false }
 
 pub linked-length : (a k : ℕ) → length (linked a k) ≡ k
 linked-length a zero = refl
@@ -57,12 +57,12 @@ from-length : (n k : ℕ) → length (from n k) ≡ k
 from-length n zero = refl
 from-length n (suc k) = ap suc (from-length (suc n) k)
 
-from-links : (size n k : ℕ) → n + k ≡ size → Links (linked 0 size) (first_of n k) (from n k)
+from-links : (size n k : ℕ) → n + k ≡ size → Links (linked 0 size) (first_word n k) (from n k)
 from-links size n zero e = refl
 from-links size n (suc k) e =
     let q : size - suc n ≡ k = omega arith in
-    let car-is : (at (linked 0 size) n).car ≡ first_of (suc n) k =
-    ap (λ (c : Cell). c.car) (linked-here size n (omega arith)) ∙ ap (first_of (suc n)) q in
+    let car-is : (at (linked 0 size) n).car ≡ first_word (suc n) k =
+    ap (λ (c : Cell). c.car) (linked-here size n (omega arith)) ∙ ap (first_word (suc n)) q in
     (refl, subst (λ (w : Word). Links (linked 0 size) w (from (suc n) k)) (sym car-is) (from-links size (suc n) k (omega arith)))
 
 each-replicate : {A : Type 0} (P : A → Type 0) (x : A) → P x → (k : ℕ) → Each P (replicate k x)
@@ -92,7 +92,7 @@ module _ {V : Type 0} (fixed : Fixed V) (N : ℕ) (grounded : Grounded fixed N) 
   vacant-all : (n : ℕ) → n < length cs → Vacant cs n
   vacant-all n l = ap (λ (c : Cell). c.cdr) (linked-here N n (let e = len in omega arith))
 
-  pub listed-new : Listed cs (first_of 0 N) N (from 0 N)
+  pub listed-new : Listed cs (first_word 0 N) N (from 0 N)
   listed-new = record {
     links = from-links N 0 N (omega arith);
     distinct = from-distinct 0 N;
@@ -102,7 +102,7 @@ module _ {V : Type 0} (fixed : Fixed V) (N : ℕ) (grounded : Grounded fixed N) 
   }
 
   free_all : (n : ℕ) → n < N → Free s n
-  free_all n l = subst (Mem n) (sym (listed-is cs (first_of 0 N) N (from 0 N) listed-new)) (from_all 0 N n (omega arith) (omega arith))
+  free_all n l = subst (Mem n) (sym (listed-is cs (first_word 0 N) N (from 0 N) listed-new)) (from_all 0 N n (omega arith) (omega arith))
 
   none : (n : ℕ) → Reachable s n → ⊥
   none n r = none-reached 16 (λ m. (at cs m).car) (λ m. (at cs m).cdr) n r

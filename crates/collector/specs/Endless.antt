@@ -46,11 +46,11 @@ replace put (Word.Cell x) a e = done (record { registers = e.registers; pairs = 
 replace put (Word.Atom c) a e = refuse e (StoreFault.NotACell a)
 replace put Word.Reserved a e = refuse e (StoreFault.NotACell a)
 
-abbrev pub first_of : Pair → Word
-first_of p = p.first
+abbrev pub first_word : Pair → Word
+first_word p = p.first
 
-abbrev pub second_of : Pair → Word
-second_of p = p.second
+abbrev pub second_word : Pair → Word
+second_word p = p.second
 
 abbrev pub with_first : Word → Pair → Pair
 with_first w p = record { first = w; second = p.second }
@@ -63,8 +63,8 @@ perform atoms e (Call.Load i v) = load_if (nat_le (atoms.coded v) atoms.limit) i
 perform atoms e (Call.Clear i) = done (named i Word.Nil e)
 perform atoms e (Call.Copy i a) = done (named i (register e.registers a) e)
 perform atoms e (Call.Cons i a b) = answer (appended i (register e.registers a) (register e.registers b) e) (Answer.Worked 0)
-perform atoms e (Call.Car i a) = read first_of (register e.registers a) i a e
-perform atoms e (Call.Cdr i a) = read second_of (register e.registers a) i a e
+perform atoms e (Call.Car i a) = read first_word (register e.registers a) i a e
+perform atoms e (Call.Cdr i a) = read second_word (register e.registers a) i a e
 perform atoms e (Call.Rplaca a b) = replace (with_first (register e.registers b)) (register e.registers a) a e
 perform atoms e (Call.Rplacd a b) = replace (with_second (register e.registers b)) (register e.registers a) a e
 perform atoms e (Call.Look i) = answer e (Answer.Saw (seen atoms (register e.registers i)))

@@ -50,21 +50,21 @@ abbrev pub at : List Cell → ℕ → Cell
 at cells n = slice_index_or cells n dead
 
 -- The word that names the first of k cells from n on.
-abbrev pub first_of : ℕ → ℕ → Word
-first_of n zero = Word.Nil
-first_of n (suc k) = Word.Cell n
+abbrev pub first_word : ℕ → ℕ → Word
+first_word n zero = Word.Nil
+first_word n (suc k) = Word.Cell n
 
 -- k free cells from n on, linked in order through their cars.
 abbrev pub linked : ℕ → ℕ → List Cell
 linked n zero = []
-linked n (suc k) = record { car = first_of (suc n) k; cdr = Word.Reserved; mark = false } ∷ linked (suc n) k
+linked n (suc k) = record { car = first_word (suc n) k; cdr = Word.Reserved; mark = false } ∷ linked (suc n) k
 
 -- A new store over a bank of the given size.
 abbrev pub new : {V : Type 0} → Fixed V → ℕ → State V
 new fixed size = record {
   fixed = fixed;
   heap = record { cells = linked 0 size; stack = [] };
-  pool = record { head = first_of 0 size; count = size; sweeper = size };
+  pool = record { head = first_word 0 size; count = size; sweeper = size };
   registers = replicate 16 Word.Nil;
   phase = Phase.Idle;
 }

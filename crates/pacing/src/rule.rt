@@ -7,7 +7,7 @@ pub trait StartRule {
 
     ghost says: { Self → ℕ → Bool };
 
-    // A member and not a `law`, so that a rule with a lifetime parameter can give it.
+    // Above the methods, where it is a member that clauses and other members can name, and not below them as a law.
     ghost lawful: { (s : Self) → Lawful (floor s) (says s) };
 
     // The floor. Asking for it changes nothing.

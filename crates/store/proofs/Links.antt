@@ -6,13 +6,13 @@ use Rattle.bank.specs.Banks.{changed, word_put}
 use Rattle.bank.specs.declared.word.Word.{Word}
 use Rattle.bank.specs.declared.word.Cell.{Cell}
 use Rattle.bank.proofs.Laws.{changed-changed, length-changed, length-put}
-use Rattle.collector.specs.States.{at, dead, first_of, linked}
+use Rattle.collector.specs.States.{at, dead, first_word, linked}
 use Rattle.collector.proofs.Cells.{changed-here, changed-other, put-fits}
 use Rattle.collector.proofs.Start.{linked-length}
 
 -- A free cell before k others, the first of them n.
 abbrev pub free : ℕ → ℕ → Cell
-free n k = record { car = first_of n k; cdr = Word.Reserved; mark = false }
+free n k = record { car = first_word n k; cdr = Word.Reserved; mark = false }
 
 linked-at : (a k n : ℕ) → n < k → at (linked a k) n ≡ free (a + n + 1) (k - (n + 1))
 linked-at a zero n l = absurd (let bad : ⊥ = omega arith in bad)
@@ -25,7 +25,7 @@ linked-at a (suc k) (suc n) l =
     let r : k - (n + 1) ≡ suc k - (suc n + 1) = omega arith in
     linked-at (suc a) k n (omega arith) ∙ ap₂ free q r
 
-first_fits : (m k limit : ℕ) → (0 < k → m ≤ limit) → number_of (first_of m k) ≤ limit
+first_fits : (m k limit : ℕ) → (0 < k → m ≤ limit) → number_of (first_word m k) ≤ limit
 first_fits m zero limit h = omega arith
 first_fits m (suc k) limit h = h (omega arith)
 
@@ -40,7 +40,7 @@ written limit cells n next l =
     ∙ changed-changed (with_car next) (with_cdr Word.Reserved) cells n)
     ∙ changed-changed (λ c. with_cdr Word.Reserved (with_car next c)) (with_mark false) cells n
 
-pub link-more : (size n limit : ℕ) (cs ds : List Cell) (next : Word) → n < size → length cs ≡ size → size ≤ 4096 → 4095 ≤ limit → next ≡ first_of (n + 1) (size - (n + 1))
+pub link-more : (size n limit : ℕ) (cs ds : List Cell) (next : Word) → n < size → length cs ≡ size → size ≤ 4096 → 4095 ≤ limit → next ≡ first_word (n + 1) (size - (n + 1))
     → ds ≡ changed (with_mark false) (word_put with_cdr limit (word_put with_car limit cs n next) n Word.Reserved) n
     → ((k : ℕ) → k < n → at cs k ≡ free (k + 1) (size - (k + 1))) → (k : ℕ) → k < n + 1 → at ds k ≡ free (k + 1) (size - (k + 1))
 link-more size n limit cs ds next l len few wide e p before =

@@ -3,13 +3,13 @@ ghost use Rattle.std.specs.Prelude.{◌≡◌, ◌-◌, false, length};
 ghost use Rattle.bank.specs.declared.word.Word.{Word};
 ghost use Rattle.bank.specs.Words.{with_car, with_cdr, with_mark};
 ghost use Rattle.bank.specs.Banks.{changed, word_put};
-ghost use Rattle.collector.specs.States.{linked, first_of};
+ghost use Rattle.collector.specs.States.{linked, first_word};
 
 use bank::{Bank, Word};
 
 // The word that names the first of some cells from n on.
 pub fn first_of(n: u32, rest: u32) -> Word
-    ensures { result ≡ first_of n rest }
+    ensures { result ≡ first_word n rest }
 {
     if rest == 0 { Word::Nil } else { Word::Cell(n) }
 }
