@@ -3,4 +3,4 @@
 set -euo pipefail
 cd "$(dirname "$0")"
 cargo build --release --quiet
-exec target/release/differ "${3:-../target/bin/zoneplan}" "${1:-20000}" "${2:-1}" target
+exec target/release/differ "${3:-../crates/zoneplan/out/zoneplan}" "${1:-20000}" "${2:-1}" target

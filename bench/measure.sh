@@ -3,7 +3,7 @@
 # measure.sh [zoneplan] [runs] [pattern of plan names]
 set -euo pipefail
 cd "$(dirname "$0")"
-zoneplan=${1:-../target/bin/zoneplan} runs=${2:-200} pattern=${3:-*}
+zoneplan=${1:-../crates/zoneplan/out/zoneplan} runs=${2:-200} pattern=${3:-*}
 twin=target/release/twin plans=target/plans
 cargo build --release --quiet
 target/release/plans "$plans"

@@ -23,8 +23,6 @@ OWN = {
     "isEffort": "dec_effort",
     "putE": "put_pair",
     "getD": "get_or",
-    "firstOf": "first_word",
-    "secondOf": "second_word",
     "get_d_front": "get_or-front",
     "zone-at": "zone_at-parts",
     "zone-if": "zone_if-parts",
@@ -33,6 +31,8 @@ OWN = {
 # Words of specs/ that end in a plain word and not in a second name.
 PLAIN = """after-scans after-sweeps asks-if chain-on collections-from frees-if lacks-by load-if offer-if offer-in onward-if onward-in
 over-in read-from replace-by replace-from scan-on shared-in sweep-if take-from take-if from-if""".split()
+# The same, where port.py has turned the word already and a function of src/ has that name: in clauses and .antt files alone.
+SPOKEN = {"first_of": "first_word", "second_of": "second_word"}
 # Names of the library that look like ours.
 LIBRARY = {"cases_Bool"}
 
@@ -56,6 +56,16 @@ def respelled(text):
     return CAMEL.sub(snake, text)
 
 
+WORDS = [(re.compile(r"(?<![\w'.-])" + a + r"(?![\w'-])"), b) for a, b in SPOKEN.items()]
+CLAUSE = re.compile(r"(?m)^\s*(?:ghost use|requires|ensures)\b.*$")
+
+
+def spoken(text):
+    for pattern, word in WORDS:
+        text = pattern.sub(word, text)
+    return text
+
+
 # A name that stands for itself after the turn needs no alias.
 ALIAS = re.compile(r"(?<![\w'-])([a-z][\w']*) as \1(?![\w'-])")
 
@@ -63,13 +73,15 @@ ALIAS = re.compile(r"(?<![\w'-])([a-z][\w']*) as \1(?![\w'-])")
 def turned(path, text):
     if path.endswith(".md"):
         return re.sub(r"`[^`\n]*`", lambda m: m.group(0) if ".rt" in m.group(0) else respelled(m.group(0)), text)
-    return ALIAS.sub(r"\1", respelled(text))
+    text = ALIAS.sub(r"\1", respelled(text))
+    return spoken(text) if path.endswith(".antt") else CLAUSE.sub(lambda m: spoken(m.group(0)), text)
 
 
 def main():
     if not os.path.exists("crates.txt"):
         sys.exit("run it at the top of the repository")
-    paths = ["README.md"] + [os.path.join("docs", f) for f in sorted(os.listdir("docs")) if f.endswith(".md")]
+    # docs/PORT.md names both spellings.
+    paths = ["README.md"] + [os.path.join("docs", f) for f in sorted(os.listdir("docs")) if f.endswith(".md") and f != "PORT.md"]
     for folder, dirs, files in os.walk("crates"):
         dirs[:] = sorted(d for d in dirs if d != "out")
         paths += [os.path.join(folder, f) for f in sorted(files) if f.endswith((".rt", ".antt", ".edit"))]
