@@ -47,6 +47,7 @@ impl fmt::Display for Fault {
 }
 
 // The listing of the zone that a line names.
+#[tactic(auto, using(crate::proofs::Answering::answers_refused))]
 pub fn answer(line: &str) -> Result<Listing, Fault>
     ensures { Answers line.now result }
 {
