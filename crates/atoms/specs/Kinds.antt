@@ -1,5 +1,5 @@
 -- What a kind of atom is: two maps between values and codes, and their law. Assumes nothing.
-use Rattle.std.specs.Prelude.{◌≡◌, ℕ, ◌^◌, ◌<◌, Some, Option}
+use Rattle.std.specs.Prelude.{◌≡◌, ◌↔◌, ℕ, ◌^◌, ◌<◌, Some, Option}
 
 pub record Lawful {V : Type 0} (coded : V → ℕ) (valued : ℕ → Option V) : Type 0 where
   -- the code of v has the value v
@@ -19,4 +19,4 @@ ReadsBack {V} coded valued = (v : V) → valued (coded v) ≡ Some v
 
 -- a code has the value v exactly where it is the code of v
 abbrev pub ValueOf : {V : Type 0} → (V → ℕ) → ℕ → Option V → Type 0
-ValueOf {V} coded code r = (v : V) → (r ≡ Some v → code ≡ coded v) × (code ≡ coded v → r ≡ Some v)
+ValueOf {V} coded code r = (v : V) → (r ≡ Some v) ↔ (code ≡ coded v)

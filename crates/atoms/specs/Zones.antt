@@ -4,21 +4,18 @@ use Rattle.std.proofs.Math.Decide.{dec_le}
 use Rattle.atoms.specs.Bounds.{IsZone}
 use Rattle.atoms.specs.declared.zone.Zone.{Zone}
 
+abbrev pub dec_three : {P Q R : Type 0} → Dec P → Dec Q → Dec R → Dec (P × Q × R)
+dec_three (yes p) (yes q) (yes r) = yes (p, q, r)
+dec_three (yes p) (yes q) (no f) = no (λ h. f h.2)
+dec_three (yes p) (no f) r = no (λ h. f h.1)
+dec_three (no f) q r = no (λ h. f h.0)
+
 abbrev pub dec_zone : (offset length : ℕ) → Dec (IsZone offset length)
-dec_zone offset length = elim (dec_le 1 length) [
-  | no f ↦ no (λ h. f h.0)
-  | yes a ↦ elim (dec_le length 65535) [
-    | no f ↦ no (λ h. f h.1)
-    | yes b ↦ elim (dec_le (offset + length) 65536) [
-      | no f ↦ no (λ h. f h.2)
-      | yes d ↦ yes (a, b, d)
-    ]
-  ]
-]
+dec_zone offset length = dec_three (dec_le 1 length) (dec_le length 65535) (dec_le (offset + length) 65536)
 
 abbrev pub zone_if : (offset length : ℕ) → Dec (IsZone offset length) → Option Zone
-zone_if o l (yes h) = Some (record { offset = o; length = l; fits = h })
-zone_if o l (no h) = None
+zone_if offset length (yes h) = Some (record { offset = offset; length = length; fits = h })
+zone_if offset length (no f) = None
 
 -- the zone of an offset and a length, where they make one
 abbrev pub zone_at : ℕ → ℕ → Option Zone

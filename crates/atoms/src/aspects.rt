@@ -5,7 +5,7 @@ ghost use Rattle.atoms.specs.Laws.{aspects-law};
 use super::aspect::{Aspect, Seconds, Train};
 use super::kind::Kind;
 
-#[derive(Clone, Copy)]
+#[derive(Clone, Copy, PartialEq, Eq, Debug)]
 pub struct Aspects;
 
 impl Kind for Aspects {

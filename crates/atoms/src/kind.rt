@@ -1,5 +1,5 @@
 // A kind of atom: a code for each value, and for each code its value or none.
-ghost use Rattle.std.specs.Prelude.{◌≡◌, ℕ, Some, Decides, Option};
+ghost use Rattle.std.specs.Prelude.{◌≡◌, ℕ, Some, IsTrue, ◌↔◌, Option};
 ghost use Rattle.atoms.specs.Kinds.{Lawful, Apart, ReadsBack, ValueOf};
 
 pub trait Kind {
@@ -37,7 +37,7 @@ pub fn reread<K: Kind>(kind: &K, value: &K::Value) -> Option<K::Value>
 
 // Whether `a` and `b` are one value, told from their codes alone.
 pub fn same_value<K: Kind>(kind: &K, a: &K::Value, b: &K::Value) -> bool
-    ensures same { Decides result (a.now ≡ b.now) }
+    ensures same { IsTrue result ↔ (a.now ≡ b.now) }
     ensures apart { Apart (K.coded kind.now) }
 {
     kind.code(a) == kind.code(b)

@@ -5,7 +5,7 @@ ghost use Rattle.atoms.specs.Laws.{zones-law};
 use super::kind::Kind;
 use super::zone::Zone;
 
-#[derive(Clone, Copy)]
+#[derive(Clone, Copy, PartialEq, Eq, Debug)]
 pub struct Zones;
 
 impl Kind for Zones {

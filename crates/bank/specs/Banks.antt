@@ -2,8 +2,9 @@
 use Rattle.std.specs.Prelude.{ℕ, ◌≤◌, Bool, cond, List, length, Ok, Err, Result, nat_le, nat_lt, slice_index_or, slice_set}
 use Rattle.bank.specs.declared.word.Word.{Word}
 use Rattle.bank.specs.declared.word.Cell.{Cell}
+use Rattle.bank.specs.declared.word.Change.{Change}
 use Rattle.bank.specs.declared.fault.BankFault.{BankFault}
-use Rattle.bank.specs.Words.{number_of, blank, with_car, with_cdr, with_mark}
+use Rattle.bank.specs.Words.{number_of, word_in, blank, with_car, with_cdr, with_mark, with_change}
 
 -- The law of banks.
 pub record Sound (limit : ℕ) (cells : List Cell) : Type 0 where
@@ -40,6 +41,13 @@ changed f cells n = slice_set cells n (f (slice_index_or cells n blank))
 -- A word put into a field, or the cells as they are where it does not fit.
 abbrev pub word_put : (Word → Cell → Cell) → ℕ → List Cell → ℕ → Word → List Cell
 word_put put limit cells n w = cond (fits limit w) (changed (put w) cells n) cells
+
+-- A change of cell n: refused where there is no such cell or its word does not fit, and the cells then as they are.
+abbrev pub change_taken : ℕ → List Cell → ℕ → Change → Result (Unit {0}) BankFault
+change_taken limit cells n change = word_taken limit cells n (word_in change)
+
+abbrev pub change_put : ℕ → List Cell → ℕ → Change → List Cell
+change_put limit cells n change = word_put (λ _. with_change change) limit cells n (word_in change)
 
 -- The three fields of a cell put in turn, each word where it fits.
 abbrev pub cell_put : ℕ → List Cell → ℕ → Cell → List Cell

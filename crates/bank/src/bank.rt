@@ -1,10 +1,9 @@
 ghost use Rattle.std.specs.Prelude.{◌≡◌, ℕ, ◌≤◌, List, length};
 ghost use Rattle.bank.specs.declared.word.Cell.{Cell};
-ghost use Rattle.bank.specs.Words.{with_car, with_cdr, with_mark};
-ghost use Rattle.bank.specs.Banks.{Sound, asked, writable, word_taken, mark_taken, word_put, changed, cell_put};
+ghost use Rattle.bank.specs.Banks.{Sound, asked, writable, change_taken, change_put, cell_put};
 
 use super::fault::BankFault;
-use super::word::{Cell, Word};
+use super::word::{Cell, Change, Word};
 
 // A list of cells and the largest number that a word of them may have. Neither the limit nor the number of cells ever changes.
 pub trait Bank {
@@ -32,19 +31,10 @@ pub trait Bank {
         Ok(cell)
     }
 
-    fn set_car(&mut self, n: u32, word: Word) -> Result<(), BankFault>
-        ensures answer { result ≡ word_taken (limit self.old) (cells self.old) n word }
-        ensures after { cells self.new ≡ word_put with_car (limit self.old) (cells self.old) n word }
-        ensures fixed { limit self.new ≡ limit self.old };
-
-    fn set_cdr(&mut self, n: u32, word: Word) -> Result<(), BankFault>
-        ensures answer { result ≡ word_taken (limit self.old) (cells self.old) n word }
-        ensures after { cells self.new ≡ word_put with_cdr (limit self.old) (cells self.old) n word }
-        ensures fixed { limit self.new ≡ limit self.old };
-
-    fn set_mark(&mut self, n: u32, mark: bool) -> Result<(), BankFault>
-        ensures answer { result ≡ mark_taken (cells self.old) n }
-        ensures after { cells self.new ≡ changed (with_mark mark) (cells self.old) n }
+    // Makes a change to cell n, or refuses it and changes nothing.
+    fn set(&mut self, n: u32, change: Change) -> Result<(), BankFault>
+        ensures answer { result ≡ change_taken (limit self.old) (cells self.old) n change }
+        ensures after { cells self.new ≡ change_put (limit self.old) (cells self.old) n change }
         ensures fixed { limit self.new ≡ limit self.old };
 
     // Sets the three fields of cell n, but for a word above the limit.
@@ -52,8 +42,8 @@ pub trait Bank {
         ensures after { cells self.new ≡ cell_put (limit self.old) (cells self.old) n cell }
         ensures fixed { limit self.new ≡ limit self.old }
     {
-        let _ = self.set_car(n, cell.car);
-        let _ = self.set_cdr(n, cell.cdr);
-        let _ = self.set_mark(n, cell.mark);
+        let _ = self.set(n, Change::Car(cell.car));
+        let _ = self.set(n, Change::Cdr(cell.cdr));
+        let _ = self.set(n, Change::Mark(cell.mark));
     }
 }

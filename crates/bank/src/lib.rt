@@ -7,4 +7,4 @@ mod word;
 
 pub use bank::Bank;
 pub use fault::BankFault;
-pub use word::{Cell, Word};
+pub use word::{Cell, Change, Word};

@@ -1,5 +1,5 @@
 ghost use Rattle.std.specs.Prelude.{◌≡◌, Ok};
-ghost use Rattle.bank.specs.Words.{number_of, with_car, with_cdr, with_mark};
+ghost use Rattle.bank.specs.Words.{number_of, word_in, with_change};
 ghost use Rattle.bank.specs.Banks.{taken};
 
 use super::fault::BankFault;
@@ -20,6 +20,14 @@ pub struct Cell {
     pub mark: bool,
 }
 
+// One field of a cell, and what it is set to.
+#[derive(Clone, Copy, PartialEq, Eq, Debug)]
+pub enum Change {
+    Car(Word),
+    Cdr(Word),
+    Mark(bool),
+}
+
 impl Word {
     pub fn number(&self) -> u32
         ensures { result ≡ number_of self.now }
@@ -29,9 +37,7 @@ impl Word {
             Word::Nil | Word::Reserved => 0,
         }
     }
-}
 
-impl Word {
     // Refuses a word whose number lies above the limit.
     pub fn within(&self, limit: u32) -> Result<(), BankFault>
         ensures { result ≡ taken limit self.now (Ok tt) }
@@ -44,6 +50,18 @@ impl Word {
     }
 }
 
+impl Change {
+    // The word that comes into the cell; nil, which always fits, where none does.
+    pub fn word(self) -> Word
+        ensures { result ≡ word_in self }
+    {
+        match self {
+            Change::Car(word) | Change::Cdr(word) => word,
+            Change::Mark(_) => Word::Nil,
+        }
+    }
+}
+
 impl Cell {
     pub const BLANK: Cell = Cell {
         car: Word::Nil,
@@ -51,21 +69,14 @@ impl Cell {
         mark: false,
     };
 
-    pub fn with_car(self, word: Word) -> Cell
-        ensures { result ≡ with_car word self }
+    // The cell with one field changed.
+    pub fn with(self, change: Change) -> Cell
+        ensures { result ≡ with_change change self }
     {
-        Cell { car: word, ..self }
-    }
-
-    pub fn with_cdr(self, word: Word) -> Cell
-        ensures { result ≡ with_cdr word self }
-    {
-        Cell { cdr: word, ..self }
-    }
-
-    pub fn with_mark(self, mark: bool) -> Cell
-        ensures { result ≡ with_mark mark self }
-    {
-        Cell { mark, ..self }
+        match change {
+            Change::Car(car) => Cell { car, ..self },
+            Change::Cdr(cdr) => Cell { cdr, ..self },
+            Change::Mark(mark) => Cell { mark, ..self },
+        }
     }
 }

@@ -1,9 +1,9 @@
 -- Chains: what a bank takes, and what stands in its cells.
+use Rattle.std.proofs.lemmas.Grind.{common_steps}
 use Rattle.std.proofs.Common.{◌≡◌, ℕ, zero, suc, ◌+◌, ◌<◌, ◌≤◌, Bool, true, false, cond, ltb, List, [], ◌∷◌, ◌++◌, length, get_or, drop, set, Ok, Err, sym, refl, ap, ◌∙◌, arith}
 use lib.Seq.{paste}
 use Rattle.std.proofs.lemmas.List.Edits.{paste_more}
-use Rattle.std.proofs.lemmas.List.{at_drop_more, append_assoc, append-nil}
-use Rattle.std.proofs.lemmas.Bool.{lt-ltb, le-ltb, ltb-true, le-leb, cond-true, cond-false}
+use Rattle.std.proofs.lemmas.Bool.{lt-ltb, le-ltb, ltb-true, le-leb, cond-false}
 use Rattle.bank.specs.declared.word.Word.{Word}
 use Rattle.bank.specs.declared.word.Cell.{Cell}
 use Rattle.bank.specs.declared.fault.BankFault.{BankFault}
@@ -21,11 +21,8 @@ abbrev pub cell_at : ℕ → ℕ → ℕ → Cell
 cell_at a n next = record { car = Word.Atom a; cdr = cond (ltb (n + 1) next) (Word.Cell (n + 1)) Word.Nil; mark = false }
 
 cdr-last : (n : ℕ) (xs : List ℕ) → link n xs ≡ cond (ltb (n + 1) (n + length (0 ∷ xs))) (Word.Cell (n + 1)) Word.Nil
-cdr-last n [] = rw (le-ltb (n + 1) (n + 1) (omega arith))
-cdr-last n (b ∷ xs) =
-    let h : n + 1 < n + suc (suc (length xs)) = omega arith in
-    let e : suc n ≡ n + 1 = omega arith in
-    rw (lt-ltb (n + 1) (n + suc (suc (length xs))) h) (ap Word.Cell e)
+cdr-last n [] = grind (arith, common_steps)
+cdr-last n (b ∷ xs) = grind (arith, common_steps)
 
 pub get_or-chain : (n : ℕ) (xs : List ℕ) (k next i : ℕ) → k < length xs → next ≡ n + length xs → i ≡ n + k → get_or (chain n xs) k blank ≡ cell_at (get_or xs k 0) i next
 get_or-chain n [] k next i h e f = let no : ⊥ = omega arith in absurd no
@@ -52,32 +49,28 @@ takes-more limit size n a next xs here fit rest = record {
     takes_at (suc k) h = let p = rest.each k (omega arith) in (omega (arith, p.0), p.1)
 
 takes-in : (b q : Bool) (limit size n a next : ℕ) (xs : List ℕ) → ((r : Ok next ≡ chain_taken limit size (suc n) xs) → Takes limit size (suc n) xs next) → ltb n size ≡ b → fits limit (Word.Atom a) ≡ q → Ok next ≡ cond b (cond q (chain_taken limit size (suc n) xs) (Err (BankFault.WordTooWide a))) (Err (BankFault.NoSuchCell n)) → Takes limit size n (a ∷ xs) next
-takes-in true true limit size n a next xs more t u e = takes-more limit size n a next xs (ltb-true n size t) u (more e)
-takes-in true false limit size n a next xs more t u e = let z : ◌≡◌ {A = ℕ} 0 1 = cc in let no : ⊥ = omega arith in absurd no
-takes-in false q limit size n a next xs more t u e = let z : ◌≡◌ {A = ℕ} 0 1 = cc in let no : ⊥ = omega arith in absurd no
+takes-in b q limit size n a next xs more t u e = grind (arith, common_steps, takes-more, more)
 
 pub chain-takes : (limit size n next : ℕ) (xs : List ℕ) → Ok next ≡ chain_taken limit size n xs → Takes limit size n xs next
 chain-takes limit size n next [] e = record { next-is = let f : next ≡ n = cc in omega arith; each = λ k h. let no : ⊥ = omega arith in absurd no }
 chain-takes limit size n next (a ∷ xs) e = takes-in (ltb n size) (fits limit (Word.Atom a)) limit size n a next xs (chain-takes limit size (suc n) next xs) refl refl e
 
+pub ruleset of_writing = (chain-takes)
+
 -- One atom of a chain looked at.
 check-at : (limit size n : ℕ) (xs : List ℕ) (i : ℕ) → i < length xs → chain_taken limit size n (drop i xs) ≡ cond (ltb n size) (taken limit (Word.Atom (get_or xs i 0)) (chain_taken limit size (suc n) (drop (i + 1) xs))) (Err (BankFault.NoSuchCell n))
-check-at limit size n xs i h = at_drop_more (chain_taken limit size n) xs i 0 h
+check-at limit size n xs i h = grind (arith, common_steps)
 
 pub check-more : (limit size n : ℕ) (xs : List ℕ) (i : ℕ) → i < length xs → n < size → fits limit (Word.Atom (get_or xs i 0)) ≡ true → chain_taken limit size (n + 1) (drop (i + 1) xs) ≡ chain_taken limit size n (drop i xs)
-check-more limit size n xs i h here fit =
-    let e : n + 1 ≡ suc n = omega arith in
-    let rest = chain_taken limit size (suc n) (drop (i + 1) xs) in
-    ap (λ k. chain_taken limit size k (drop (i + 1) xs)) e
-    ∙ sym (check-at limit size n xs i h
-    ∙ ap (λ b. cond b (taken limit (Word.Atom (get_or xs i 0)) rest) (Err (BankFault.NoSuchCell n))) (lt-ltb n size here)
-    ∙ ap (λ b. cond b rest (Err (BankFault.WordTooWide (get_or xs i 0)))) fit)
+check-more limit size n xs i h here fit = grind (arith, common_steps)
 
 pub check-past : (limit size n : ℕ) (xs : List ℕ) (i : ℕ) → i < length xs → size ≤ n → Err (BankFault.NoSuchCell n) ≡ chain_taken limit size n (drop i xs)
-check-past limit size n xs i h past = sym (check-at limit size n xs i h ∙ cond-false (ltb n size) _ _ (le-ltb n size past))
+check-past limit size n xs i h past = grind (arith, common_steps, check-at limit size n xs i h)
 
 pub check-wide : (limit size n : ℕ) (xs : List ℕ) (i : ℕ) → i < length xs → n < size → fits limit (Word.Atom (get_or xs i 0)) ≡ false → Err (BankFault.WordTooWide (get_or xs i 0)) ≡ chain_taken limit size n (drop i xs)
-check-wide limit size n xs i h here unfit = sym (check-at limit size n xs i h ∙ cond-true (ltb n size) _ _ (lt-ltb n size here) ∙ cond-false (fits limit (Word.Atom (get_or xs i 0))) _ _ unfit)
+check-wide limit size n xs i h here unfit = grind (arith, common_steps)
+
+pub ruleset of_checking = (check-more, check-past, check-wide)
 
 -- One cell of a chain read.
 pub none_from : (k : ℕ) (cells : List Cell) (w : Word) → ((n : ℕ) → w ≡ Word.Cell n → ⊥) → atoms_from k cells w ≡ []
@@ -89,14 +82,10 @@ none_from (suc k) cells Word.Reserved other = refl
 
 pub past-from : (k : ℕ) (cells : List Cell) (w : Word) (n : ℕ) → w ≡ Word.Cell n → length cells ≤ n → atoms_from k cells w ≡ []
 past-from zero cells w n e past = refl
-past-from (suc k) cells w n e past = ap (atoms_from (suc k) cells) e ∙ cond-false (ltb n (length cells)) _ _ (le-ltb n (length cells) past)
+past-from (suc k) cells w n e past = grind (arith, common_steps)
 
 pub more-from : (fuel k : ℕ) (cells : List Cell) (w : Word) (n : ℕ) (c : Cell) → w ≡ Word.Cell n → fuel ≡ suc k → n < length cells → c ≡ get_or cells n blank → atoms_from fuel cells w ≡ atom_in c.car ++ atoms_from k cells c.cdr
-more-from fuel k cells w n c e f here is =
-    ap (λ j. atoms_from j cells w) f
-    ∙ ap (atoms_from (suc k) cells) e
-    ∙ cond-true (ltb n (length cells)) _ _ (lt-ltb n (length cells) here)
-    ∙ ap (λ d. atom_in d.car ++ atoms_from k cells d.cdr) (sym is)
+more-from fuel k cells w n c e f here is = grind (arith, common_steps)
 
 pub no-atom : (w : Word) → ((c : ℕ) → w ≡ Word.Atom c → ⊥) → atom_in w ≡ []
 no-atom Word.Nil other = refl
@@ -105,19 +94,14 @@ no-atom (Word.Atom c) other = absurd (other c refl)
 no-atom Word.Reserved other = refl
 
 pub read_more : (was seen : List ℕ) (rest left total : List ℕ) (new : List ℕ) → seen ≡ was ++ new → was ++ left ≡ total → left ≡ new ++ rest → seen ++ rest ≡ total
-read_more was seen rest left total new is so more =
-    ap (λ t. t ++ rest) is ∙ append_assoc was new rest ∙ ap (λ t. was ++ t) (sym more) ∙ so
+read_more was seen rest left total new is so more = grind (arith, common_steps)
 
 pub read_all : (was left total : List ℕ) → was ++ left ≡ total → left ≡ [] → was ≡ total
-read_all was left total so none = sym (append-nil was) ∙ ap (λ t. was ++ t) (sym none) ∙ so
+read_all was left total so none = grind (arith, common_steps)
 
 -- One cell of a chain written.
 cdr-fits : (limit size from next : ℕ) (xs : List ℕ) (i : ℕ) → Takes limit size from xs next → size ≤ 4096 → 4095 ≤ limit → (b : Bool) → ltb (from + i + 1) next ≡ b → fits limit (cond b (Word.Cell (from + i + 1)) Word.Nil) ≡ true
-cdr-fits limit size from next xs i takes few wide true t =
-    let below = ltb-true (from + i + 1) next t in
-    let more : i + 1 < length xs = omega (arith, takes.next-is) in
-    le-leb (from + i + 1) limit (omega (arith, (takes.each (i + 1) more).0))
-cdr-fits limit size from next xs i takes few wide false t = le-leb 0 limit (omega arith)
+cdr-fits limit size from next xs i takes few wide b t = grind (arith, common_steps, takes.next-is, takes.each)
 
 pub chain-step : (limit size from next : ℕ) (xs : List ℕ) (cells was after : List Cell) (i : ℕ) (w : Word) → Takes limit size from xs next → size ≡ length cells → size ≤ 4096 → 4095 ≤ limit → i < length xs → w ≡ cond (ltb (from + i + 1) next) (Word.Cell (from + i + 1)) Word.Nil → was ≡ paste cells from (chain from xs) i → after ≡ cell_put limit was (from + i) (record { car = Word.Atom (get_or xs i 0); cdr = w; mark = false }) → after ≡ paste cells from (chain from xs) (i + 1)
 chain-step limit size from next xs cells was after i w takes long few wide h w-is was-is after_is =

@@ -6,6 +6,7 @@ use bank::{Bank, BankFault, Cell, Word};
 use std::alloc::{AllocError, Global};
 
 // Writes the atoms as a chain into the cells from `from` on and gives the number of the next cell, or writes nothing.
+#[tactic(auto, using(crate::proofs::Chaining::of_writing))]
 pub fn write_chain<B: Bank>(bank: &mut B, from: u32, atoms: &[u32]) -> Result<u32, BankFault>
     ensures answer { result ≡ chain_taken (B.limit bank.old) (length (B.cells bank.old)) from atoms.now }
     ensures after { B.cells bank.new ≡ (if is_ok result then placed (B.cells bank.old) from (chain from atoms.now) else B.cells bank.old) }
@@ -31,18 +32,18 @@ pub fn write_chain<B: Bank>(bank: &mut B, from: u32, atoms: &[u32]) -> Result<u3
     Ok(next)
 }
 
+#[tactic(auto, using(crate::proofs::Chaining::of_checking))]
 fn check_chain(limit: u32, size: u32, from: u32, atoms: &[u32]) -> Result<u32, BankFault>
     ensures { result ≡ chain_taken limit size from atoms.now }
 {
-    let mut n = from;
-    for atom in atoms {
+    for (i, atom) in atoms.iter().enumerate() {
+        let n = from + i as u32;
         if n >= size {
             return Err(BankFault::NoSuchCell(n));
         }
         Word::Atom(*atom).within(limit)?;
-        n += 1;
     }
-    Ok(n)
+    Ok(from + atoms.len() as u32)
 }
 
 // The atoms of the chain that begins in cell `start`.

@@ -3,6 +3,7 @@
 #![tactic(auto)]
 
 mod chain;
+mod pair;
 mod script;
 
 use bank::Cell;

@@ -1,4 +1,5 @@
 use super::chain;
+use super::pair::ZonePair;
 use bank::{Bank, Cell};
 use layers::{Hold, Join, Window};
 use memory::{PackedBank, RecordBank};
@@ -34,33 +35,26 @@ pub fn run(rt: &HostRuntime, packed: &mut [u64], records: &mut [Cell]) -> anyhow
     Ok(())
 }
 
+// Prints the chain that begins in cell `start`.
 fn print_chain<B: Bank>(rt: &HostRuntime, bank: &B, start: u32) -> anyhow::Result<()> {
     let codes = chain::read_chain(rt.alloc(), bank, start)?;
     print!(rt; "chain at {start}:")?;
     for code in codes.iter() {
-        let offset = *code / 65536;
-        let length = *code % 65536;
-        print!(rt; " {offset}+{length}")?;
+        let zone = ZonePair::from(*code);
+        print!(rt; " {zone}")?;
     }
     println!(rt; "")?;
     Ok(())
 }
 
+// The codes of a line's zones, or none where a word of it is no zone.
 fn chain_codes(heap: Global, line: &str) -> Result<Option<Vec<u32>>, AllocError> {
     let mut codes = Vec::new(heap);
     for zone in line.split_whitespace() {
-        let Some(code) = zone_code(zone) else {
+        let Ok(pair) = zone.parse::<ZonePair>() else {
             return Ok(None);
         };
-        codes.push(code)?;
+        codes.push(pair.into())?;
     }
     Ok(Some(codes))
-}
-
-// The code of a zone: its offset times 65,536, and its length.
-fn zone_code(zone: &str) -> Option<u32> {
-    let (offset, length) = zone.split_once('+')?;
-    let offset = offset.parse::<u16>().ok()?;
-    let length = length.parse::<u16>().ok()?;
-    Some(u32::from(offset) * 65536 + u32::from(length))
 }

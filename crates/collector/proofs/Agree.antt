@@ -1,7 +1,6 @@
 -- The store and the endless heap hold the same, under other numbers. Assumes nothing.
-use Rattle.std.proofs.Common.{◌≡◌, ℕ, zero, suc, ◌<◌, ◌≤◌, List, [], ◌∷◌, map, length, get_or, set, sym, refl, ap, ◌∙◌, subst, inl, inr, arith}
+use Rattle.std.proofs.Common.{◌≡◌, ℕ, zero, suc, ◌<◌, List, [], ◌∷◌, map, length, get_or, set, sym, refl, ap, ◌∙◌, subst, inl, inr, rules}
 use Rattle.std.proofs.lemmas.List.{map-set}
-use Rattle.std.proofs.lemmas.Bool.{cases_eq, eq-eqb, ne_eqb}
 use Rattle.bank.specs.declared.word.Word.{Word}
 use Rattle.collector.specs.Lists.{Mem, Distinct, Each, AtMost}
 use Rattle.collector.specs.States.{Atoms, State, at}
@@ -37,19 +36,16 @@ mem-map f w (v ∷ vs) (inr m) = inr (mem-map f w vs m)
 
 -- A word that is renamed to a cell names one.
 was-cell : (f : ℕ → ℕ) (w : Word) (n : ℕ) → rename f w ≡ Word.Cell n → (x : ℕ) × (w ≡ Word.Cell x) × (f x ≡ n)
-was-cell f Word.Nil n e = absurd (let z : ◌≡◌ {A = ℕ} 0 1 = cc in let bad : ⊥ = omega arith in bad)
-was-cell f (Word.Cell x) n e = (x, refl, cc)
-was-cell f (Word.Atom c) n e = absurd (let z : ◌≡◌ {A = ℕ} 0 1 = cc in let bad : ⊥ = omega arith in bad)
-was-cell f Word.Reserved n e = absurd (let z : ◌≡◌ {A = ℕ} 0 1 = cc in let bad : ⊥ = omega arith in bad)
+was-cell f x1 n e = search rules
 
 mem-unmap : (f : ℕ → ℕ) (n : ℕ) (ws : List Word) → Mem (Word.Cell n) (map (rename f) ws) → (x : ℕ) × Mem (Word.Cell x) ws × (f x ≡ n)
 mem-unmap f n [] m = absurd m
-mem-unmap f n (v ∷ vs) (inl e) = let w = was-cell f v n (sym e) in (w.0, inl (sym w.1), w.2)
+mem-unmap f n (v ∷ vs) (inl e) = search rules
 mem-unmap f n (v ∷ vs) (inr m) = let r = mem-unmap f n vs m in (r.0, inr r.1, r.2)
 
 -- A register that names a cell is a root.
 pub register-root : (rs : List Word) (r x : ℕ) → register rs r ≡ Word.Cell x → Mem (Word.Cell x) rs
-register-root [] r x e = absurd (let z : ◌≡◌ {A = ℕ} 0 1 = cc in let bad : ⊥ = omega arith in bad)
+register-root [] r x e = search rules
 register-root (w ∷ ws) zero x e = inl (sym e)
 register-root (w ∷ ws) (suc r) x e = inr (register-root ws r x e)
 
@@ -58,7 +54,7 @@ pub reach-sub : (ws vs : List Word) (car cdr : ℕ → Word) → ((n : ℕ) → 
 reach-sub ws vs car cdr f n (root m) = f n m
 reach-sub ws vs car cdr f n (via {m = m} r e) = via (reach-sub ws vs car cdr f m r) e
 
-module _ {V : Type 0} (f : ℕ → ℕ) (e : Endless) (s : State V) (g : Agree f e s) where
+module _ {V : Type 0} {f : ℕ → ℕ} {e : Endless} {s : State V} (g : Agree f e s) where
   pub register-agrees : (r : ℕ) → register s.registers r ≡ rename f (register e.registers r)
   register-agrees r = ap (λ (ws : List Word). register ws r) g.registers ∙ get_or-map-at (rename f) e.registers r Word.Nil
 
@@ -105,12 +101,7 @@ module _ {V : Type 0} (f : ℕ → ℕ) (e : Endless) (s : State V) (g : Agree f
 
   -- A bound on what the heap reaches bounds what the store reaches.
   pub bound-carries : (A : ℕ) → AtMost A (ReachableIn e) → AtMost A (Reachable s)
-  bound-carries A b ns d h =
-      let r = heap-cells ns h in
-      let short : length r.0 ≤ A = b r.0 (distinct-back r.0 (subst Distinct (sym r.1) d)) r.2 in
-      let same : length (map f r.0) ≡ length ns = ap length r.1 in
-      let image = length-image r.0 in
-      omega arith
+  bound-carries A b ns d h = search (rules, heap-cells, distinct-back, length-image)
 
   -- A register is set on both sides.
   pub agree-named : (r : ℕ) (w : Word) → ((x : ℕ) → w ≡ Word.Cell x → ReachableIn e x) → Agree f (named r w e) (with_register r (rename f w) s)
@@ -118,35 +109,16 @@ module _ {V : Type 0} (f : ℕ → ℕ) (e : Endless) (s : State V) (g : Agree f
       let back : (x : ℕ) → ReachableIn (named r w e) x → ReachableIn e x = reach-sub (set e.registers r w) e.registers (λ y. (pair_at e y).first) (λ y. (pair_at e y).second)
       (λ n m. elim (mem-set (Word.Cell n) w e.registers r m) [ inl q ↦ reached n (sym q) | inr k ↦ root k ]) in
       record {
-        registers = ap (λ (ws : List Word). set ws r (rename f w)) g.registers ∙ sym (map-set (rename f) e.registers r w);
-        firsts = λ x h. g.firsts x (back x h);
-        seconds = λ x h. g.seconds x (back x h);
-        inside = λ x h. g.inside x (back x h);
-        apart = λ x y h k q. g.apart x y (back x h) (back y k) q;
+        registers = search (rules, r, rename, f, w, g.registers, map-set, e.registers);
+        firsts = search rules;
+        seconds = search rules;
+        inside = search rules;
+        apart = search rules;
       }
 
   -- What a register shows, and whether two hold the same.
   pub seen-agrees : (atoms : Atoms V) (w : Word) → seen atoms (rename f w) ≡ seen atoms w
-  seen-agrees atoms Word.Nil = refl
-  seen-agrees atoms (Word.Cell x) = refl
-  seen-agrees atoms (Word.Atom c) = refl
-  seen-agrees atoms Word.Reserved = refl
+  seen-agrees atoms x1 = search rules
 
   pub same-agrees : (v w : Word) → ((x : ℕ) → v ≡ Word.Cell x → ReachableIn e x) → ((x : ℕ) → w ≡ Word.Cell x → ReachableIn e x) → same_word (rename f v) (rename f w) ≡ same_word v w
-  same-agrees Word.Nil Word.Nil hv hw = refl
-  same-agrees Word.Nil (Word.Cell y) hv hw = refl
-  same-agrees Word.Nil (Word.Atom d) hv hw = refl
-  same-agrees Word.Nil Word.Reserved hv hw = refl
-  same-agrees (Word.Cell x) Word.Nil hv hw = refl
-  same-agrees (Word.Cell x) (Word.Cell y) hv hw =
-      elim (cases_eq x y) [
-        | inl q ↦ eq-eqb (f x) (f y) (ap f q) ∙ sym (eq-eqb x y q)
-        | inr ne ↦ ne_eqb (f x) (f y) (λ q. ne (g.apart x y (hv x refl) (hw y refl) q)) ∙ sym (ne_eqb x y ne)
-      ]
-  same-agrees (Word.Cell x) (Word.Atom d) hv hw = refl
-  same-agrees (Word.Cell x) Word.Reserved hv hw = refl
-  same-agrees (Word.Atom c) Word.Nil hv hw = refl
-  same-agrees (Word.Atom c) (Word.Cell y) hv hw = refl
-  same-agrees (Word.Atom c) (Word.Atom d) hv hw = refl
-  same-agrees (Word.Atom c) Word.Reserved hv hw = refl
-  same-agrees Word.Reserved w hv hw = refl
+  same-agrees x0 w hv hw = search rules

@@ -1,7 +1,6 @@
 -- A new cell in the store is a new cell in the endless heap. Assumes nothing.
-use Rattle.std.proofs.Common.{◌≡◌, ℕ, ◌<◌, cond, eqb, ◌⊎◌, List, [], ◌∷◌, map, length, set, sym, refl, ap, ◌∙◌, inl, inr, arith}
+use Rattle.std.proofs.Common.{◌≡◌, ℕ, ◌<◌, cond, eqb, ◌⊎◌, List, [], ◌∷◌, map, length, set, sym, refl, ap, ◌∙◌, inl, inr, arith, rules}
 use Rattle.std.proofs.lemmas.List.{map-set, get_or_append_left, get_or_push, length_push}
-use Rattle.std.proofs.lemmas.Bool.{eq-eqb, ne_eqb, cond-true, cond-false}
 use Rattle.bank.specs.declared.word.Word.{Word}
 use Rattle.bank.specs.declared.word.Cell.{Cell}
 use Rattle.collector.specs.Lists.{Mem}
@@ -17,16 +16,13 @@ named-too f x0 h x = cond (eqb x x0) h (f x)
 
 module _ (f : ℕ → ℕ) (x0 h : ℕ) where
   named_new : (x : ℕ) → x ≡ x0 → named-too f x0 h x ≡ h
-  named_new x e = cond-true (eqb x x0) h (f x) (eq-eqb x x0 e)
+  named_new x e = search rules
 
   named-old : (x : ℕ) → (x ≡ x0 → ⊥) → named-too f x0 h x ≡ f x
-  named-old x ne = cond-false (eqb x x0) h (f x) (ne_eqb x x0 ne)
+  named-old x ne = search rules
 
   rename-old : (w : Word) → ((x : ℕ) → w ≡ Word.Cell x → x < x0) → rename (named-too f x0 h) w ≡ rename f w
-  rename-old Word.Nil b = refl
-  rename-old (Word.Cell x) b = ap (λ (n : ℕ). Word.Cell n) (named-old x (let l = b x refl in omega arith))
-  rename-old (Word.Atom c) b = refl
-  rename-old Word.Reserved b = refl
+  rename-old x0 b = search rules
 
   rename-all : (ws : List Word) → ((x : ℕ) → Mem (Word.Cell x) ws → x < x0) → map (rename (named-too f x0 h)) ws ≡ map (rename f) ws
   rename-all [] b = refl
@@ -52,14 +48,13 @@ module _ {V : Type 0} (f : ℕ → ℕ) (e : Endless) (s t : State V) (g : Agree
   f' = named-too f x0 h
 
   new-pair : pair_at e' x0 ≡ record { first = wa; second = wb }
-  new-pair = get_or_push e.pairs (record { first = wa; second = wb }) (record { first = Word.Nil; second = Word.Nil }) x0 refl
+  new-pair = search get_or_push
 
   old-pair : (x : ℕ) → x < x0 → pair_at e' x ≡ pair_at e x
-  old-pair x l = get_or_append_left e.pairs (record { first = wa; second = wb } ∷ []) (record { first = Word.Nil; second = Word.Nil }) x l
+  old-pair x l = search get_or_append_left
 
   target : (x m : ℕ) (field : Pair → Word) → (m ≡ x0) ⊎ ReachableIn e m → field (pair_at e' m) ≡ Word.Cell x → (field (record { first = wa; second = wb }) ≡ Word.Cell x → ReachableIn e x) → (ReachableIn e m → field (pair_at e m) ≡ Word.Cell x → ReachableIn e x) → ReachableIn e x
-  target x m field (inl q) w new old = new (ap field (sym new-pair) ∙ ap (λ (k : ℕ). field (pair_at e' k)) (sym q) ∙ w)
-  target x m field (inr r') w new old = old r' (ap field (sym (old-pair m (g.inside m r'))) ∙ w)
+  target x m field x3 w new old = search (rules, new-pair, old-pair)
 
   -- What the heap reaches now is the new cell or was reached before.
   pub reached-before : (x : ℕ) → ReachableIn e' x → (x ≡ x0) ⊎ ReachableIn e x
@@ -74,26 +69,17 @@ module _ {V : Type 0} (f : ℕ → ℕ) (e : Endless) (s t : State V) (g : Agree
       inr (target x m (λ p. p.second) (reached-before m q) w (λ k. rb x k) (λ k v. via k (inr v)))
 
   below : (w : Word) → ((x : ℕ) → w ≡ Word.Cell x → ReachableIn e x) → rename f' w ≡ rename f w
-  below w k = rename-old f x0 h w (λ x q. g.inside x (k x q))
+  below w k = search rules
 
   apart-new : (x : ℕ) → ReachableIn e x → x ≡ x0 → ⊥
-  apart-new x k q = let l = g.inside x k in let bad : ⊥ = omega arith in bad
+  apart-new x k q = search rules
 
   field-agrees : (field : Cell → Word) (part : Pair → Word) → field (at t.heap.cells h) ≡ rename f (part (record { first = wa; second = wb }))
       → ((x : ℕ) → part (record { first = wa; second = wb }) ≡ Word.Cell x → ReachableIn e x)
       → ((x : ℕ) → ReachableIn e x → field (at s.heap.cells (f x)) ≡ rename f (part (pair_at e x)))
       → ((x y : ℕ) → ReachableIn e x → part (pair_at e x) ≡ Word.Cell y → ReachableIn e y)
       → (x : ℕ) → ReachableIn e' x → field (at t.heap.cells (f' x)) ≡ rename f' (part (pair_at e' x))
-  field-agrees field part new reached old on x k =
-      elim (reached-before x k) [
-        | inl q ↦ ap (λ (n : ℕ). field (at t.heap.cells n)) (named_new f x0 h x q) ∙ new
-            ∙ sym (below (part (record { first = wa; second = wb })) reached)
-            ∙ ap (λ (p : Pair). rename f' (part p)) (sym new-pair) ∙ ap (λ (n : ℕ). rename f' (part (pair_at e' n))) (sym q)
-        | inr k' ↦ ap (λ (n : ℕ). field (at t.heap.cells n)) (named-old f x0 h x (apart-new x k'))
-            ∙ ap field (fresh.elsewhere (f x) (fresh.unreached x k')) ∙ old x k'
-            ∙ sym (below (part (pair_at e x)) (λ y v. on x y k' v))
-            ∙ ap (λ (p : Pair). rename f' (part p)) (sym (old-pair x (g.inside x k')))
-      ]
+  field-agrees field part new reached old on x k = search (rules, reached-before, named_new, below, new-pair, named-old, apart-new, old-pair)
 
   pub agree-appended : Agree f' e' t
   agree-appended = record {
@@ -103,15 +89,6 @@ module _ {V : Type 0} (f : ℕ → ℕ) (e : Endless) (s t : State V) (g : Agree
         ∙ sym (map-set (rename f') e.registers r (Word.Cell x0));
     firsts = field-agrees (λ c. c.car) (λ p. p.first) fresh.here.0 ra g.firsts (λ x y k v. via k (inl v));
     seconds = field-agrees (λ c. c.cdr) (λ p. p.second) fresh.here.1 rb g.seconds (λ x y k v. via k (inr v));
-    inside = λ x k. let lp = length_push e.pairs (record { first = wa; second = wb }) in elim (reached-before x k) [ inl q ↦ omega arith | inr k' ↦ let l = g.inside x k' in omega arith ];
-    apart = λ x y kx ky q. elim (reached-before x kx) [
-      | inl qx ↦ elim (reached-before y ky) [
-        | inl qy ↦ qx ∙ sym qy
-        | inr hy ↦ absurd (fresh.unreached y hy (sym (named-old f x0 h y (apart-new y hy)) ∙ sym q ∙ named_new f x0 h x qx))
-      ]
-      | inr hx ↦ elim (reached-before y ky) [
-        | inl qy ↦ absurd (fresh.unreached x hx (sym (named-old f x0 h x (apart-new x hx)) ∙ q ∙ named_new f x0 h y qy))
-        | inr hy ↦ g.apart x y hx hy (sym (named-old f x0 h x (apart-new x hx)) ∙ q ∙ named-old f x0 h y (apart-new y hy))
-      ]
-    ];
+    inside = λ x k. let lp = length_push e.pairs (record { first = wa; second = wb }) in elim (reached-before x k) [ inl q ↦ omega arith | inr k' ↦ search rules ];
+    apart = search (rules, reached-before, fresh.unreached, named-old, f, x0, h, apart-new, named_new, g.apart);
   }

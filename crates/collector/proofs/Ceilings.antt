@@ -1,5 +1,5 @@
 -- Quotients rounded up, and the arithmetic of the starvation bound. Assumes nothing.
-use Rattle.std.proofs.Common.{◌≡◌, ℕ, ◌+◌, ◌-◌, ◌*◌, ◌<◌, ◌≤◌, min, ◌⊎◌, ap, ◌∙◌, subst, inl, inr, mul-le-mul_left, arith}
+use Rattle.std.proofs.Common.{◌≡◌, ℕ, ◌+◌, ◌-◌, ◌*◌, ◌<◌, ◌≤◌, min, ◌⊎◌, ap, ◌∙◌, subst, inl, inr, mul-le-mul_left, arith, rules}
 use Rattle.std.proofs.lemmas.Bool.{cases_lt}
 use Rattle.collector.specs.Laws.{ceiling, turns_for, Enough}
 
@@ -11,29 +11,18 @@ times-mono : (k a b : ℕ) → a ≤ b → k * a ≤ k * b
 times-mono k a b l = mul-le-mul_left k l
 
 pub ceiling-least : (X k q : ℕ) → 1 ≤ k → X ≤ k * q → ceiling X k ≤ q
-ceiling-least X k q l h =
-    elim (cases_lt q (ceiling X k)) [
-      | inl more ↦ absurd (let m : k * (q + 1) ≤ k * ceiling X k = times-mono k (q + 1) (ceiling X k) (omega arith) in let bad : ⊥ = omega arith in bad)
-      | inr done ↦ done
-    ]
+ceiling-least X k q l h = search rules
 
 -- A larger number, by as much at most.
 pub ceiling-shift : (X d k : ℕ) → 1 ≤ k → ceiling (X + d) k ≤ ceiling X k + d
-ceiling-shift X d k l =
-    ceiling-least (X + d) k (ceiling X k + d) l
-    (let c = ceiling-covers X k l in let m : d * 1 ≤ d * k = times-mono d 1 k l in omega arith)
+ceiling-shift X d k l = grind (arith, ceiling-least, ceiling-covers, times-mono)
 
 -- Turns that are all full but the last are as many as the quotient rounded up, or one.
 pub turns-bound : (t k X : ℕ) → 1 ≤ k → (t ≤ 1) ⊎ (k * (t - 1) < X) → t ≤ turns_for X k
-turns-bound t k X l (inl few) = omega arith
-turns-bound t k X l (inr full) =
-    elim (cases_lt (ceiling X k) t) [
-      | inl more ↦ absurd (let m : k * ceiling X k ≤ k * (t - 1) = times-mono k (ceiling X k) (t - 1) (omega arith) in let c = ceiling-covers X k l in let bad : ⊥ = omega arith in bad)
-      | inr done ↦ omega arith
-    ]
+turns-bound t k x2 l x4 = search (rules, cases_lt, times-mono, ceiling-covers)
 
 pub turns-mono : (k X Y : ℕ) → 1 ≤ k → X ≤ Y → turns_for X k ≤ turns_for Y k
-turns-mono k X Y l h = let c : ceiling X k ≤ ceiling Y k = ceiling-least X k (ceiling Y k) l (let d = ceiling-covers Y k l in omega arith) in omega arith
+turns-mono k X Y l h = search rules
 
 -- The reserve suffices for any larger free count with which a collection begins.
 pub reserve-grows : (A k1 k2 M N F : ℕ) → 1 ≤ k2 → Enough A k1 k2 M N → M ≤ F → 1 + turns_for A k1 + ceiling (A + F) k2 ≤ F
@@ -47,12 +36,7 @@ reserve-grows A k1 k2 M N F l e h =
 -- What a sweep turn leaves: at least one cell, and at its end the reserve.
 module _ (A k1 k2 M N F fr marks i p : ℕ) (some : 1 ≤ k2) (e : Enough A k1 k2 M N) (h : M ≤ F) (m : marks ≤ turns_for A k1) (b : i ≤ turns_for N k2) (place : p ≡ min (k2 * i) N) (cover : p ≤ fr + A + F) where
   last-turns : i ≤ ceiling N k2
-  last-turns =
-      let room = e.room in
-      elim (cases_lt (ceiling N k2) 1) [
-        | inl none ↦ absurd (let c = ceiling-covers N k2 some in let z : k2 * ceiling N k2 ≤ k2 * 0 = times-mono k2 (ceiling N k2) 0 (omega arith) in let bad : ⊥ = omega arith in bad)
-        | inr one ↦ omega arith
-      ]
+  last-turns = search rules
 
   pub sweep-leaves : 1 + marks + i ≤ F + fr
   sweep-leaves =
@@ -74,4 +58,4 @@ module _ (A k1 k2 M N F fr marks i p : ℕ) (some : 1 ≤ k2) (e : Enough A k1 k
       ]
 
   pub sweep-ends : p ≡ N → 1 + marks + i + M ≤ F + fr
-  sweep-ends q = let room = e.room in let t = last-turns in omega arith
+  sweep-ends q = search rules

@@ -1,7 +1,7 @@
 -- Reading cells after a change of one. Assumes nothing.
-use Rattle.std.proofs.Common.{◌≡◌, ℕ, ◌<◌, ◌≤◌, true, false, ◌≢◌, List, length, sym, ap, ◌∙◌, inl, inr, arith, length-set, get_or-set_other, get_or-set_same}
+use Rattle.std.proofs.Common.{◌≡◌, ℕ, ◌<◌, ◌≤◌, false, ◌≢◌, List, length, ap, length-set, get_or-set_other, get_or-set_same, rules}
 use Rattle.std.proofs.lemmas.List.{get_or_default, get_or_past, set_past}
-use Rattle.std.proofs.lemmas.Bool.{cases_eq, cases_lt, le-leb}
+use Rattle.std.proofs.lemmas.Bool.{cases_eq, cases_lt}
 use Rattle.bank.specs.Words.{blank, number_of}
 use Rattle.bank.specs.Banks.{changed, word_put}
 use Rattle.bank.specs.declared.word.Word.{Word}
@@ -22,35 +22,16 @@ changed-past f cs n l = set_past cs n _ l
 
 -- A reading that the change keeps is the same everywhere.
 pub reads_same : {X : Type 0} (g : Cell → X) (f : Cell → Cell) → ((c : Cell) → g (f c) ≡ g c) → (cs : List Cell) (n m : ℕ) → g (at (changed f cs n) m) ≡ g (at cs m)
-reads_same g f keeps cs n m =
-    elim (cases_lt n (length cs)) [
-      | inl l ↦ elim (cases_eq m n) [
-        | inl e ↦ ap (λ k. g (at (changed f cs n) k)) e ∙ ap g (changed-here f cs n l) ∙ keeps (at cs n) ∙ ap (λ k. g (at cs k)) (sym e)
-        | inr ne ↦ ap g (changed-other f cs n m ne)
-      ]
-      | inr l ↦ ap (λ ds. g (at ds m)) (changed-past f cs n l)
-    ]
+reads_same g f keeps cs n m = search (rules, cases_lt, cases_eq, changed-here, changed-other, changed-past)
 
 -- A word that fits is put in place.
 pub put-fits : (put : Word → Cell → Cell) (limit : ℕ) (cs : List Cell) (n : ℕ) (w : Word) → number_of w ≤ limit → word_put put limit cs n w ≡ changed (put w) cs n
-put-fits put limit cs n w l = rw (le-leb (number_of w) limit l)
+put-fits put limit cs n w l = search rules
 
 -- What is unmarked lies within the bank.
 pub unmarked-within : (cs : List Cell) (n : ℕ) → (at cs n).mark ≡ false → n < length cs
-unmarked-within cs n e =
-    elim (cases_lt n (length cs)) [
-      | inl l ↦ l
-      | inr l ↦ let past : at cs n ≡ dead = get_or_past cs n dead l in
-          let no : true ≡ false = sym (ap (λ (c : Cell). c.mark) past) ∙ e in
-          absurd (let z : ◌≡◌ {A = ℕ} 0 1 = cc in let bad : ⊥ = omega arith in bad)
-    ]
+unmarked-within cs n e = search (rules, cases_lt, get_or_past)
 
 -- So does what is reserved.
 pub reserved-within : (cs : List Cell) (n : ℕ) → (at cs n).cdr ≡ Word.Reserved → n < length cs
-reserved-within cs n e =
-    elim (cases_lt n (length cs)) [
-      | inl l ↦ l
-      | inr l ↦ let past : at cs n ≡ dead = get_or_past cs n dead l in
-          let no : Word.Nil ≡ Word.Reserved = sym (ap (λ (c : Cell). c.cdr) past) ∙ e in
-          absurd (let z : ◌≡◌ {A = ℕ} 0 1 = cc in let bad : ⊥ = omega arith in bad)
-    ]
+reserved-within cs n e = search (rules, cases_lt, get_or_past)

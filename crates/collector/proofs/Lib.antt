@@ -6,6 +6,7 @@ pub mod Mark
 pub mod Scan
 pub mod Chains
 pub mod Sweep
+pub mod Put
 pub mod Take
 pub mod Replace
 pub mod Turn

@@ -1,5 +1,5 @@
 -- How many turns a collection takes, and how its count of free cells goes. Assumes nothing.
-use Rattle.std.proofs.Common.{◌≡◌, ℕ, zero, suc, ◌+◌, ◌-◌, ◌*◌, ◌<◌, ◌≤◌, min, Bool, true, false, cond, leb, ◌⊎◌, List, [], ◌∷◌, ◌++◌, length, sym, refl, ap, ◌∙◌, subst, inl, inr, arith, length-append}
+use Rattle.std.proofs.Common.{◌≡◌, ℕ, zero, suc, ◌+◌, ◌-◌, ◌*◌, ◌<◌, ◌≤◌, min, Bool, true, false, cond, leb, ◌⊎◌, List, [], ◌∷◌, ◌++◌, length, refl, ap, inl, inr, arith, length-append, rules}
 use Rattle.std.proofs.lemmas.Bool.{both_ways, leb-false}
 use Rattle.bank.specs.declared.word.Cell.{Cell}
 use Rattle.collector.specs.declared.phase.Phase.{Phase}
@@ -38,32 +38,26 @@ empty-stays : (k : ℕ) (cs : List Cell) → (scans k (record { cells = cs; stac
 empty-stays zero cs = refl
 empty-stays (suc k) cs = empty-stays k cs
 
-empty-pops : (k : ℕ) (cs : List Cell) → scanned k (record { cells = cs; stack = [] }) ≡ []
-empty-pops zero cs = refl
-empty-pops (suc k) cs = empty-pops k cs
-
 pub pops-full : (k : ℕ) (cs : List Cell) (stack : List ℕ) → is_empty (scans k (record { cells = cs; stack = stack })).stack ≡ false → length (scanned k (record { cells = cs; stack = stack })) ≡ k
 pops-full zero cs stack e = refl
-pops-full (suc k) cs [] e = absurd (both_ways (is_empty (scans k (record { cells = cs; stack = [] })).stack) e (ap is_empty (empty-stays k cs)))
+pops-full (suc k) cs [] e = search (rules, both_ways, empty-stays)
 pops-full (suc k) cs (m ∷ stack) e =
     let h : Heap = scan_on (m ∷ stack) cs in
     ap suc (pops-full k h.cells h.stack e)
 
 pub pops-some : (k : ℕ) (cs : List Cell) (stack : List ℕ) → 1 ≤ k → is_empty stack ≡ false → 1 ≤ length (scanned k (record { cells = cs; stack = stack }))
-pops-some zero cs stack l e = l
-pops-some (suc k) cs [] l e = absurd (let z : ◌≡◌ {A = ℕ} 0 1 = cc in let bad : ⊥ = omega arith in bad)
-pops-some (suc k) cs (m ∷ stack) l e = omega arith
+pops-some x0 cs stack l e = search rules
 
-module _ {V : Type 0} (c : Collection V) (s : State V) (i : Inv c s) (p : Paced c s) where
+module _ {V : Type 0} {c : Collection V} {s : State V} (i : Inv c s) (p : Paced c s) where
   module _ (marking : s.phase ≡ Phase.Mark) where
     before : PacedIn Phase.Mark c s
-    before = subst (λ (ph : Phase). PacedIn ph c s) marking p.paced
+    before = search rules
 
     abbrev more : List ℕ
     more = scanned s.fixed.k1 s.heap
 
     longer : length (c.scanned_cells ++ more) ≡ length c.scanned_cells + length more
-    longer = length-append c.scanned_cells more
+    longer = search length-append
 
     marked-paced : (b : Bool) → is_empty (scans s.fixed.k1 s.heap).stack ≡ b → PacedIn (cond b Phase.Sweep Phase.Mark) (after-mark s c) (marked s)
     marked-paced true e =
@@ -73,10 +67,10 @@ module _ {V : Type 0} (c : Collection V) (s : State V) (i : Inv c s) (p : Paced 
             | inl none ↦ inl (omega arith)
             | inr waits ↦ inr (let one = pops-some s.fixed.k1 s.heap.cells s.heap.stack i.grounded.scans_some waits in
                 let q : c.mark_turns + 1 - 1 ≡ c.mark_turns = omega arith in
-                let r : s.fixed.k1 * (c.mark_turns + 1 - 1) ≡ s.fixed.k1 * c.mark_turns = ap (λ (x : ℕ). s.fixed.k1 * x) q in
+                let r : s.fixed.k1 * (c.mark_turns + 1 - 1) ≡ s.fixed.k1 * c.mark_turns = search rules in
                 let full = was.0 in omega arith)
           ],
-          (let z = (in-mark c s i marking).0 in let y : c.sweep_turns ≡ 0 = was.1 in let w : s.fixed.k2 * c.sweep_turns ≡ s.fixed.k2 * 0 = ap (λ (x : ℕ). s.fixed.k2 * x) y in omega arith),
+          (let z = (in-mark i marking).0 in let y : c.sweep_turns ≡ 0 = was.1 in let w : s.fixed.k2 * c.sweep_turns ≡ s.fixed.k2 * 0 = search rules in omega arith),
           inl was.1,
         )
     marked-paced false e =
@@ -87,73 +81,52 @@ module _ {V : Type 0} (c : Collection V) (s : State V) (i : Inv c s) (p : Paced 
         (omega arith, was.1, inr e)
 
     pub mark-pace : Paced (after-mark s c) (marked s)
-    mark-pace =
-        let m = (mark-marked c s i marking).marking in
-        record {
-          once = m.scanned-once;
-          were = each_of (c.scanned_cells ++ more) (λ n k. (m.scanned n k).0);
-          free-count = p.free-count;
-          paced = marked-paced (is_empty (scans s.fixed.k1 s.heap).stack) refl;
-        }
+    mark-pace = search (rules, mark-marked, each_of, marked-paced)
 
   module _ (sweeping : s.phase ≡ Phase.Sweep) where
     during : PacedIn Phase.Sweep c s
-    during = subst (λ (ph : Phase). PacedIn ph c s) sweeping p.paced
+    during = search rules
 
     abbrev g : Ground
     g = sweeps s.fixed.atoms.limit s.fixed.k2 (ground s)
 
     new-place : g.pool.sweeper ≡ min (s.fixed.k2 * (c.sweep_turns + 1)) (length g.cells)
     new-place =
-        let a = (sweep-place c s i sweeping).0 in
-        let b = (sweep-place c s i sweeping).1 in
+        let a = (sweep-place i sweeping).0 in
+        let b = (sweep-place i sweeping).1 in
         let d = during.1 in
         omega arith
 
     swept-paced : (b : Bool) → leb (length g.cells) g.pool.sweeper ≡ b → PacedIn (cond b Phase.Idle Phase.Sweep) (after-sweep s c) (swept s)
     swept-paced true e =
         let was = during in
-        let a = (sweep-place c s i sweeping).0 in (
+        let a = (sweep-place i sweeping).0 in (
           was.0,
           elim was.2 [
             | inl none ↦ inl (omega arith)
-            | inr below ↦ inr (let q : c.sweep_turns + 1 - 1 ≡ c.sweep_turns = omega arith in
-                let r : s.fixed.k2 * (c.sweep_turns + 1 - 1) ≡ s.fixed.k2 * c.sweep_turns = ap (λ (x : ℕ). s.fixed.k2 * x) q in
-                let d = was.1 in omega arith)
+            | inr below ↦ search rules
           ],
         )
-    swept-paced false e =
-        let was = during in
-        (was.0, new-place, inr (leb-false (length g.cells) g.pool.sweeper e))
+    swept-paced false e = search (rules, during, new-place, leb-false)
 
     pub sweep-pace : Paced (after-sweep s c) (swept s)
-    sweep-pace = record {
-      once = p.once;
-      were = p.were;
-      free-count = p.free-count;
-      paced = swept-paced (leb (length g.cells) g.pool.sweeper) refl;
-    }
+    sweep-pace = search swept-paced
 
     -- Where the sweep stands after the turn.
     pub place-now : g.pool.sweeper ≡ min (s.fixed.k2 * (c.sweep_turns + 1)) (length g.cells)
     place-now = new-place
 
   pub begin-pace : Paced (beginning s) (begun s)
-  begin-pace = record {
-    once = tt;
-    were = tt;
-    free-count = ap length (listed-is s.heap.cells s.pool.head s.pool.count i.core.fs i.core.listed) ∙ i.core.listed.counted;
-    paced = (omega arith, refl, inl refl);
-  }
+  begin-pace = search (rules, listed-is)
 
-turn-pace-in : {V : Type 0} (ph : Phase) (says : Bool) (c : Collection V) (s : State V) → s.phase ≡ ph → Inv c s → Paced c s → Paced (onward_in ph says s c) (turn_in ph says s)
-turn-pace-in Phase.Idle true c s e i p = begin-pace c s i p
-turn-pace-in Phase.Idle false c s e i p = p
-turn-pace-in Phase.Mark says c s e i p = mark-pace c s i p e
-turn-pace-in Phase.Sweep says c s e i p = sweep-pace c s i p e
+turn-pace-in : {V : Type 0} (ph : Phase) (says : Bool) {c : Collection V} {s : State V} → s.phase ≡ ph → Inv c s → Paced c s → Paced (onward_in ph says s c) (turn_in ph says s)
+turn-pace-in Phase.Idle true e i p = begin-pace i p
+turn-pace-in Phase.Idle false e i p = p
+turn-pace-in Phase.Mark says e i p = mark-pace i p e
+turn-pace-in Phase.Sweep says e i p = sweep-pace i p e
 
-pub turn-pace : {V : Type 0} (says : Bool) (c : Collection V) (s : State V) → Inv c s → Paced c s → Paced (onward_in s.phase says s c) (turn says s)
-turn-pace says c s i p = turn-pace-in s.phase says c s refl i p
+pub turn-pace : {V : Type 0} (says : Bool) {c : Collection V} {s : State V} → Inv c s → Paced c s → Paced (onward_in s.phase says s c) (turn says s)
+turn-pace says i p = search turn-pace-in
 
 -- What a call changes besides its turn: neither phase nor sweeper, and a waiting cell goes on waiting.
 pub record Calm {V : Type 0} (s t : State V) : Type 0 where
@@ -163,26 +136,5 @@ pub record Calm {V : Type 0} (s t : State V) : Type 0 where
   pub size_same : size t ≡ size s
   pub waiting : is_empty s.heap.stack ≡ false → is_empty t.heap.stack ≡ false
 
-paced-in-calm : {V : Type 0} (ph : Phase) (c : Collection V) (s t : State V) → Calm s t → PacedIn ph c s → PacedIn ph c t
-paced-in-calm Phase.Idle c s t m p = (
-  subst (λ fx. MarksFull fx.k1 c) (sym m.fixed) p.0,
-  subst (λ (n : ℕ). SweepsFull t.fixed.k2 n c) (sym m.size_same) (subst (λ fx. SweepsFull fx.k2 (size s) c) (sym m.fixed) p.1),
-)
-paced-in-calm Phase.Mark c s t m p = (
-  subst (λ fx. length c.scanned_cells ≡ fx.k1 * c.mark_turns) (sym m.fixed) p.0,
-  p.1,
-  elim p.2 [ inl z ↦ inl z | inr w ↦ inr (m.waiting w) ],
-)
-paced-in-calm Phase.Sweep c s t m p = (
-  subst (λ fx. MarksFull fx.k1 c) (sym m.fixed) p.0,
-  m.sweeper ∙ p.1 ∙ ap (λ fx. min (fx.k2 * c.sweep_turns) (size s)) (sym m.fixed) ∙ ap (min (t.fixed.k2 * c.sweep_turns)) (sym m.size_same),
-  elim p.2 [ inl z ↦ inl z | inr l ↦ inr (let a = m.sweeper in let b = m.size_same in omega arith) ],
-)
-
 pub paced-calm : {V : Type 0} (c : Collection V) (s t : State V) → Calm s t → Paced c s → Paced c t
-paced-calm c s t m p = record {
-  once = p.once;
-  were = p.were;
-  free-count = p.free-count;
-  paced = subst (λ (ph : Phase). PacedIn ph c t) (sym m.phase) (paced-in-calm s.phase c s t m p.paced);
-}
+paced-calm c s t m p = search rules

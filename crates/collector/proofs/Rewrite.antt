@@ -1,5 +1,5 @@
 -- A replaced word in the store is a replaced word in the endless heap. Assumes nothing.
-use Rattle.std.proofs.Common.{◌≡◌, ℕ, ◌⊎◌, set, sym, refl, ap, ◌∙◌, inl, inr, length-set, get_or-set_other, get_or-set_same}
+use Rattle.std.proofs.Common.{◌≡◌, ℕ, ◌⊎◌, set, ◌∙◌, inl, inr, length-set, get_or-set_other, arith, rules}
 use Rattle.std.proofs.lemmas.Bool.{cases_eq}
 use Rattle.bank.specs.Words.{with_car, with_cdr}
 use Rattle.bank.specs.declared.word.Word.{Word}
@@ -20,10 +20,10 @@ pub record Twins (put : Word → Cell → Cell) (put_pair : Word → Pair → Pa
   pub seconds : Alike put put_pair (λ c. c.cdr) (λ p. p.second)
 
 pub car-twins : Twins with_car with_first
-car-twins = record { firsts = inl (λ w c. refl, λ w p. refl); seconds = inr (λ w c. refl, λ w p. refl) }
+car-twins = search rules
 
 pub cdr-twins : Twins with_cdr with_second
-cdr-twins = record { firsts = inr (λ w c. refl, λ w p. refl); seconds = inl (λ w c. refl, λ w p. refl) }
+cdr-twins = search rules
 
 module _ {V : Type 0} (put : Word → Cell → Cell) (put_pair : Word → Pair → Pair) (twins : Twins put put_pair) (f : ℕ → ℕ) (e : Endless) (s t : State V) (g : Agree f e s) (x0 : ℕ) (w : Word)
     (r0 : ReachableIn e x0) (rw0 : (x : ℕ) → w ≡ Word.Cell x → ReachableIn e x)
@@ -34,20 +34,13 @@ module _ {V : Type 0} (put : Word → Cell → Cell) (put_pair : Word → Pair �
   rewritten = record { registers = e.registers; pairs = set e.pairs x0 (put_pair w (pair_at e x0)) }
 
   pair-here : pair_at rewritten x0 ≡ put_pair w (pair_at e x0)
-  pair-here = let l = g.inside x0 r0 in rw get_or-set_same
+  pair-here = search rules
 
   pair-other : (x : ℕ) → (x ≡ x0 → ⊥) → pair_at rewritten x ≡ pair_at e x
   pair-other x ne = rw get_or-set_other
 
   goes : (field : Cell → Word) (part : Pair → Word) → Alike put put_pair field part → (m x : ℕ) → ReachableIn e m → ((y : ℕ) → part (pair_at e m) ≡ Word.Cell y → ReachableIn e y) → part (pair_at rewritten m) ≡ Word.Cell x → ReachableIn e x
-  goes field part alike m x r on v =
-      elim (cases_eq m x0) [
-        | inl q ↦ elim alike [
-          | inl new ↦ rw0 x (sym (new.1 w (pair_at e x0)) ∙ ap part (sym pair-here) ∙ ap (λ (k : ℕ). part (pair_at rewritten k)) (sym q) ∙ v)
-          | inr same ↦ on x (ap (λ (k : ℕ). part (pair_at e k)) q ∙ sym (same.1 w (pair_at e x0)) ∙ ap part (sym pair-here) ∙ ap (λ (k : ℕ). part (pair_at rewritten k)) (sym q) ∙ v)
-        ]
-        | inr ne ↦ on x (ap part (sym (pair-other m ne)) ∙ v)
-      ]
+  goes field part alike m x r on v = search rules
 
   pub reached-as-before : (x : ℕ) → ReachableIn rewritten x → ReachableIn e x
   reached-as-before x (root m) = root m
@@ -61,17 +54,7 @@ module _ {V : Type 0} (put : Word → Cell → Cell) (put_pair : Word → Pair �
       → ((n : ℕ) → (n ≡ f x0 → ⊥) → field (at t.heap.cells n) ≡ field (at s.heap.cells n))
       → ((x : ℕ) → ReachableIn e x → field (at s.heap.cells (f x)) ≡ rename f (part (pair_at e x)))
       → (x : ℕ) → ReachableIn rewritten x → field (at t.heap.cells (f x)) ≡ rename f (part (pair_at rewritten x))
-  field-agrees field part alike hr else old x k =
-      let r = reached-as-before x k in
-      elim (cases_eq x x0) [
-        | inl q ↦ ap (λ (n : ℕ). field (at t.heap.cells (f n))) q ∙ hr
-            ∙ elim alike [
-              | inl new ↦ new.0 (rename f w) (at s.heap.cells (f x0)) ∙ ap (rename f) (sym (new.1 w (pair_at e x0)))
-              | inr same ↦ same.0 (rename f w) (at s.heap.cells (f x0)) ∙ old x0 r0 ∙ ap (rename f) (sym (same.1 w (pair_at e x0)))
-            ]
-            ∙ ap (λ (p : Pair). rename f (part p)) (sym pair-here) ∙ ap (λ (n : ℕ). rename f (part (pair_at rewritten n))) (sym q)
-        | inr ne ↦ else (f x) (λ q. ne (g.apart x x0 r r0 q)) ∙ old x r ∙ ap (λ (p : Pair). rename f (part p)) (sym (pair-other x ne))
-      ]
+  field-agrees field part alike hr else old x k = grind (arith, reached-as-before, cases_eq, pair-here, pair-other)
 
   pub agree-rewritten : Agree f rewritten t
   agree-rewritten = record {

@@ -1,5 +1,5 @@
 -- Cells whose words are the same: what does not speak of marks carries over. Assumes nothing.
-use Rattle.std.proofs.Common.{◌≡◌, ℕ, Bool, true, List, [], ◌∷◌, length, sym, refl, ◌∙◌, subst, arith}
+use Rattle.std.proofs.Common.{◌≡◌, ℕ, Bool, true, List, [], ◌∷◌, length, sym, refl, ◌∙◌, rules}
 use Rattle.bank.specs.Words.{with_mark}
 use Rattle.bank.specs.Banks.{changed}
 use Rattle.bank.specs.declared.word.Word.{Word}
@@ -15,16 +15,6 @@ pub record Same (cs ds : List Cell) : Type 0 where
   pub cars : (n : ℕ) → (at ds n).car ≡ (at cs n).car
   pub cdrs : (n : ℕ) → (at ds n).cdr ≡ (at cs n).cdr
 
-pub same_refl : (cs : List Cell) → Same cs cs
-same_refl cs = record { len = refl; cars = λ n. refl; cdrs = λ n. refl }
-
-pub same-trans : (cs ds es : List Cell) → Same cs ds → Same ds es → Same cs es
-same-trans cs ds es p q = record {
-  len = q.len ∙ p.len;
-  cars = λ n. q.cars n ∙ p.cars n;
-  cdrs = λ n. q.cdrs n ∙ p.cdrs n;
-}
-
 pub same-mark : (b : Bool) (cs : List Cell) (n : ℕ) → Same cs (changed (with_mark b) cs n)
 same-mark b cs n = record {
   len = changed-length (with_mark b) cs n;
@@ -38,65 +28,46 @@ pub record Grown (cs ds : List Cell) : Type 0 where
   pub marks : (n : ℕ) → (at cs n).mark ≡ true → (at ds n).mark ≡ true
 
 pub grown-refl : (cs : List Cell) → Grown cs cs
-grown-refl cs = record { same = same_refl cs; marks = λ n m. m }
+grown-refl cs = search
 
 pub grown-trans : (cs ds es : List Cell) → Grown cs ds → Grown ds es → Grown cs es
-grown-trans cs ds es p q = record { same = same-trans cs ds es p.same q.same; marks = λ n m. q.marks n (p.marks n m) }
+grown-trans cs ds es p q = search rules
+
+-- Marks that only grow keep what is done.
+pub done-marks : (cs ds : List Cell) → ((n : ℕ) → (at cs n).mark ≡ true → (at ds n).mark ≡ true) → (w : Word) → Done cs w → Done ds w
+done-marks cs ds f w d = search rules
+
+pub dones-marks : (cs ds : List Cell) → ((n : ℕ) → (at cs n).mark ≡ true → (at ds n).mark ≡ true) → (ws : List Word) → Each (Done cs) ws → Each (Done ds) ws
+dones-marks cs ds f ws h = search (each_map, done-marks)
 
 pub done-grown : (cs ds : List Cell) → Grown cs ds → (w : Word) → Done cs w → Done ds w
-done-grown cs ds g Word.Nil d = tt
-done-grown cs ds g (Word.Cell n) d = g.marks n d
-done-grown cs ds g (Word.Atom c) d = tt
-done-grown cs ds g Word.Reserved d = tt
+done-grown cs ds g x3 d = search rules
 
 pub sound-map : (limit : ℕ) (P Q : ℕ → Type 0) → ((n : ℕ) → P n → Q n) → (w : Word) → Sound limit P w → Sound limit Q w
-sound-map limit P Q f Word.Nil h = tt
-sound-map limit P Q f (Word.Cell n) h = f n h
-sound-map limit P Q f (Word.Atom c) h = h
-sound-map limit P Q f Word.Reserved h = h
+sound-map limit x1 x2 f x4 h = search rules
 
 pub sounds-map : (limit : ℕ) (P Q : ℕ → Type 0) → ((n : ℕ) → P n → Q n) → (ws : List Word) → Each (Sound limit P) ws → Each (Sound limit Q) ws
-sounds-map limit P Q f ws h = each_map (Sound limit P) (Sound limit Q) (sound-map limit P Q f) ws h
+sounds-map limit P Q f ws h = search (each_map, sound-map)
 
 module _ (R F : ℕ → Type 0) where
   pub live_same : (p : ℕ) (cs ds : List Cell) → Same cs ds → (n : ℕ) → Live R F p cs n → Live R F p ds n
-  live_same p cs ds e n l = record {
-    within = let h = l.within in omega (arith, e.len);
-    used = λ v. l.used (sym (e.cdrs n) ∙ v);
-    known = l.known;
-  }
-
-  same-sym : (cs ds : List Cell) → Same cs ds → Same ds cs
-  same-sym cs ds e = record { len = sym e.len; cars = λ n. sym (e.cars n); cdrs = λ n. sym (e.cdrs n) }
+  live_same p cs ds e n l = search rules
 
   pub live_back : (p : ℕ) (cs ds : List Cell) → Same cs ds → (n : ℕ) → Live R F p ds n → Live R F p cs n
-  live_back p cs ds e n l = live_same p ds cs (same-sym cs ds e) n l
+  live_back p cs ds e n l = search rules
 
   pub closed_same : (limit p : ℕ) (cs ds : List Cell) (ws : List Word) → Same cs ds → Closed limit (Live R F p cs) cs ws → Closed limit (Live R F p ds) ds ws
-  closed_same limit p cs ds ws e c =
-      let to : (w : Word) → Sound limit (Live R F p cs) w → Sound limit (Live R F p ds) w = sound-map limit (Live R F p cs) (Live R F p ds) (live_same p cs ds e) in
-      record {
-        inside = λ n l. l.within;
-        cars = λ n l. subst (Sound limit (Live R F p ds)) (sym (e.cars n)) (to (at cs n).car (c.cars n (live_back p cs ds e n l)));
-        cdrs = λ n l. subst (Sound limit (Live R F p ds)) (sym (e.cdrs n)) (to (at cs n).cdr (c.cdrs n (live_back p cs ds e n l)));
-        words = each_map (Sound limit (Live R F p cs)) (Sound limit (Live R F p ds)) to ws c.words;
-      }
+  closed_same limit p cs ds ws e c = search (rules, sound-map, live_same, live_back, each_map)
 
   pub links-same : (cs ds : List Cell) → ((n : ℕ) → (at ds n).car ≡ (at cs n).car) → (w : Word) (fs : List ℕ) → Links cs w fs → Links ds w fs
   links-same cs ds e w [] h = h
-  links-same cs ds e w (n ∷ ns) h = (h.0, subst (λ (v : Word). Links ds v ns) (sym (e n)) (links-same cs ds e (at cs n).car ns h.1))
+  links-same cs ds e w (n ∷ ns) h = search (rules, links-same cs ds e (at cs n).car ns h.1)
 
   pub listed_same : (cs ds : List Cell) (head : Word) (count : ℕ) (fs : List ℕ) → Same cs ds → Listed cs head count fs → Listed ds head count fs
-  listed_same cs ds head count fs e h = record {
-    links = links-same cs ds e.cars head fs h.links;
-    distinct = h.distinct;
-    counted = h.counted;
-    vacant = λ n m. e.cdrs n ∙ h.vacant n m;
-    only = λ n v. h.only n (sym (e.cdrs n) ∙ v);
-  }
+  listed_same cs ds head count fs e h = search (rules, links-same)
 
   pub past-len : (m n : ℕ) → n ≡ m → Past R F m → Past R F n
-  past-len m n e p = subst (Past R F) (sym e) p
+  past-len m n e p = search rules
 
   pub core-same : (popped freed : List ℕ) (limit : ℕ) (cs ds : List Cell) (pool : Pool) (ws : List Word) → Same cs ds → Core R F popped freed limit cs pool ws → Core R F popped freed limit ds pool ws
   core-same popped freed limit cs ds pool ws e c = record {

@@ -1,18 +1,15 @@
 -- What the calls leave alone besides the turn. Assumes nothing.
-use Rattle.std.proofs.Common.{◌≡◌, ℕ, ◌-◌, Bool, true, false, ltb, leb, List, ◌∷◌, length, Some, None, Ok, Err, Option, Result, sym, refl, ap, ◌∙◌, subst, inl, inr}
-use Rattle.std.proofs.lemmas.Bool.{cases_eq, cond_both}
+use Rattle.std.proofs.Common.{◌≡◌, ℕ, ◌-◌, Bool, true, false, leb, Some, None, Option, sym, refl, ap, ◌∙◌, subst, inl, inr, rules}
+use Rattle.std.proofs.lemmas.Bool.{cases_eq}
 use Rattle.bank.specs.Words.{with_car, with_cdr}
-use Rattle.bank.specs.Banks.{asked, word_taken}
-use Rattle.bank.specs.declared.fault.BankFault.{BankFault}
 use Rattle.bank.specs.declared.word.Word.{Word}
 use Rattle.bank.specs.declared.word.Cell.{Cell}
 use Rattle.collector.specs.declared.call.Call.{Call}
-use Rattle.collector.specs.declared.phase.Phase.{Phase}
 use Rattle.collector.specs.Lists.{is_empty}
-use Rattle.collector.specs.States.{Heap, Pool, State, at}
-use Rattle.collector.specs.Turns.{offer_if, offer, turn, work}
-use Rattle.collector.specs.Outcomes.{After, registers_of, absent, register}
-use Rattle.collector.specs.Calls.{offer_in, passed, load_if, read_from, read_by, replace_from, replace_by, take, car_of, cdr_of, perform, checked}
+use Rattle.collector.specs.States.{State}
+use Rattle.collector.specs.Turns.{turn, work}
+use Rattle.collector.specs.Outcomes.{After, register}
+use Rattle.collector.specs.Calls.{load_if, read_by, replace_by, take, car_of, cdr_of, perform, checked}
 use Rattle.collector.specs.Runs.{Event, next, outcome, Collection, onward_in, onward_if, onward}
 use Rattle.collector.specs.Laws.{lacks}
 use Rattle.collector.proofs.Turn.{turn-keeps}
@@ -28,50 +25,16 @@ pub record Still {V : Type 0} (s : State V) (a : After (State V) V) : Type 0 whe
   pub waiting : is_empty s.heap.stack ≡ false → is_empty a.state.heap.stack ≡ false
   pub served : lacks a.outcome ≡ false
 
-offer_if-waits : (b : Bool) (n : ℕ) (h : Heap) → is_empty h.stack ≡ false → is_empty (offer_if b n h).stack ≡ false
-offer_if-waits true n h e = e
-offer_if-waits false n h e = cond_both (ltb (length h.stack) 4096) (n ∷ h.stack) h.stack (λ (st : List ℕ). is_empty st ≡ false) (λ q. refl) (λ q. e)
-
-offer-waits : (w : Word) (h : Heap) → is_empty h.stack ≡ false → is_empty (offer w h).stack ≡ false
-offer-waits Word.Nil h e = e
-offer-waits (Word.Cell n) h e = offer_if-waits (at h.cells n).mark n h e
-offer-waits (Word.Atom c) h e = e
-offer-waits Word.Reserved h e = e
-
-offer_in-waits : (ph : Phase) (w : Word) (h : Heap) → is_empty h.stack ≡ false → is_empty (offer_in ph w h).stack ≡ false
-offer_in-waits Phase.Idle w h e = e
-offer_in-waits Phase.Mark w h e = offer-waits w h e
-offer_in-waits Phase.Sweep w h e = e
-
 module _ {V : Type 0} (s : State V) where
   still-load : (b : Bool) (i code : ℕ) → Still s (load_if b i code s)
-  still-load true i code = record { phase = refl; pool = refl; fixed = refl; waiting = λ e. e; served = refl }
-  still-load false i code = record { phase = refl; pool = refl; fixed = refl; waiting = λ e. e; served = refl }
-
-  still-read_from : (field : Cell → Word) (o : Result Cell BankFault) (i : ℕ) → Still s (read_from field o i s)
-  still-read_from field (Ok c) i = record { phase = refl; pool = refl; fixed = refl; waiting = λ e. e; served = refl }
-  still-read_from field (Err f) i = record { phase = refl; pool = refl; fixed = refl; waiting = λ e. e; served = refl }
+  still-load true i code = search
+  still-load false i code = search
 
   still_read : (field : Cell → Word) (w : Word) (i a : ℕ) → Still s (read_by field w i a s)
-  still_read field Word.Nil i a = record { phase = refl; pool = refl; fixed = refl; waiting = λ e. e; served = refl }
-  still_read field (Word.Cell n) i a = still-read_from field (asked s.heap.cells n) i
-  still_read field (Word.Atom c) i a = record { phase = refl; pool = refl; fixed = refl; waiting = λ e. e; served = refl }
-  still_read field Word.Reserved i a = record { phase = refl; pool = refl; fixed = refl; waiting = λ e. e; served = refl }
-
-  still-passed : (t : State V) (o : Result (Unit {0}) BankFault) → t.phase ≡ s.phase → t.pool ≡ s.pool → t.fixed ≡ s.fixed → (is_empty s.heap.stack ≡ false → is_empty t.heap.stack ≡ false) → Still s (passed t o)
-  still-passed t (Ok u) a b c d = record { phase = a; pool = b; fixed = c; waiting = d; served = refl }
-  still-passed t (Err f) a b c d = record { phase = a; pool = b; fixed = c; waiting = d; served = refl }
-
-  still-replace_from : (field : Cell → Word) (put : Word → Cell → Cell) (o : Result Cell BankFault) (n : ℕ) (w : Word) → Still s (replace_from field put o n w s)
-  still-replace_from field put (Ok c) n w =
-      still-passed _ (word_taken s.fixed.atoms.limit (offer_in s.phase (field c) s.heap).cells n w) refl refl refl (offer_in-waits s.phase (field c) s.heap)
-  still-replace_from field put (Err f) n w = record { phase = refl; pool = refl; fixed = refl; waiting = λ e. e; served = refl }
+  still_read field x1 i a = search rules
 
   still-replace : (field : Cell → Word) (put : Word → Cell → Cell) (v : Word) (a : ℕ) (w : Word) → Still s (replace_by field put v a w s)
-  still-replace field put Word.Nil a w = record { phase = refl; pool = refl; fixed = refl; waiting = λ e. e; served = refl }
-  still-replace field put (Word.Cell n) a w = still-replace_from field put (asked s.heap.cells n) n w
-  still-replace field put (Word.Atom c) a w = record { phase = refl; pool = refl; fixed = refl; waiting = λ e. e; served = refl }
-  still-replace field put Word.Reserved a w = record { phase = refl; pool = refl; fixed = refl; waiting = λ e. e; served = refl }
+  still-replace field put x2 a w = search rules
 
 -- How a call goes: still, or as a turn and a take.
 pub data Goes {V : Type 0} (s : State V) (says : Bool) (c : Collection V) : After (State V) V → Collection V → Type 0 where
@@ -95,7 +58,7 @@ checked-goes (Some r) s says c k = without-turn (record { phase = refl; pool = r
 checked-goes None s says c k = perform-goes s says c k
 
 pub step-goes : {V : Type 0} (s : State V) (e : Event V) (c : Collection V) → Goes s e.says c (record { state = next s e; outcome = outcome s e }) (onward s e c)
-step-goes s e c = checked-goes (absent (registers_of e.call)) s e.says c e.call
+step-goes s e c = search (rules, checked-goes)
 
 -- A take leaves all but the count and the cells.
 pub record Took {V : Type 0} (s : State V) (a : After (State V) V) : Type 0 where
@@ -105,34 +68,27 @@ pub record Took {V : Type 0} (s : State V) (a : After (State V) V) : Type 0 wher
   pub stack : a.state.heap.stack ≡ s.heap.stack
   pub gone : (s.pool.count ≡ 0 → ⊥) → (lacks a.outcome ≡ false) × (a.state.pool.count ≡ s.pool.count - 1)
 
-pub take-took : {V : Type 0} (c : Collection V) (s : State V) → Inv c s → (w r a b : ℕ) → Took s (take w r a b s)
-take-took {V} c s i w r a b =
+pub take-took : {V : Type 0} {c : Collection V} {s : State V} → Inv c s → (w r a b : ℕ) → Took s (take w r a b s)
+take-took {V = V} {s = s} i w r a b =
     elim (cases_eq s.pool.count 0) [
-      | inl e ↦ subst (Took s) (sym (take-lacks c s i w r a b e)) (record { phase = refl; sweeper = refl; fixed = refl; stack = refl; gone = λ ne. absurd (ne e) })
-      | inr ne ↦ subst (Took s) (sym (take-takes c s i w r a b ne).3) (record { phase = refl; sweeper = refl; fixed = refl; stack = refl; gone = λ n. (refl, refl) })
+      | inl e ↦ search rules
+      | inr ne ↦ subst (Took s) (sym (take-takes i w r a b ne).3) (record { phase = refl; sweeper = refl; fixed = refl; stack = refl; gone = λ n. (refl, refl) })
     ]
 
 -- The pace is kept by every call.
 goes-pace : {V : Type 0} (s : State V) (says : Bool) (c : Collection V) (a : After (State V) V) (d : Collection V) → Goes s says c a d → Inv c s → Inv d a.state → Paced c s → Paced d a.state
-goes-pace s says c a d (without-turn st) i j p =
-    paced-calm c s a.state (record {
-      phase = st.phase;
-      sweeper = ap (λ (q : Pool). q.sweeper) st.pool;
-      fixed = st.fixed;
-      size_same = sym j.same_size ∙ i.same_size;
-      waiting = st.waiting;
-    }) p
+goes-pace s says c a d (without-turn st) i j p = search rules
 goes-pace s says c a d (with-turn r x y) i j p =
     let t : State _ = turn says s in
-    let k = turn-keeps says c s i in
-    let tk = take-took d t k (work s) r x y in
+    let k = turn-keeps says i in
+    let tk = take-took k (work s) r x y in
     paced-calm d t a.state (record {
       phase = tk.phase;
       sweeper = tk.sweeper;
       fixed = tk.fixed;
-      size_same = sym j.same_size ∙ k.same_size;
-      waiting = λ e. ap is_empty tk.stack ∙ e;
-    }) (turn-pace says c s i p)
+      size_same = search rules;
+      waiting = search rules;
+    }) (turn-pace says i p)
 
-pub step-pace : {V : Type 0} (c : Collection V) (s : State V) → Inv c s → (e : Event V) → Inv (onward s e c) (next s e) → Paced c s → Paced (onward s e c) (next s e)
-step-pace c s i e j p = goes-pace s e.says c (record { state = next s e; outcome = outcome s e }) (onward s e c) (step-goes s e c) i j p
+pub step-pace : {V : Type 0} {c : Collection V} {s : State V} → Inv c s → (e : Event V) → Inv (onward s e c) (next s e) → Paced c s → Paced (onward s e c) (next s e)
+step-pace {c = c} {s = s} i e j p = goes-pace s e.says c (record { state = next s e; outcome = outcome s e }) (onward s e c) (step-goes s e c) i j p

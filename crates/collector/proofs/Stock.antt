@@ -1,10 +1,10 @@
 -- Under the starvation bound there is a free cell after every turn. Assumes nothing.
-use Rattle.std.proofs.Common.{◌≡◌, ℕ, ◌+◌, ◌-◌, ◌*◌, ◌<◌, ◌≤◌, min, Bool, true, false, cond, leb, List, [], ◌++◌, length, sym, refl, ap, ◌∙◌, subst, inl, inr, mul-le-mul_left, arith, length-append}
-use Rattle.std.proofs.lemmas.Bool.{cases_lt, both_ways, leb-true}
+use Rattle.std.proofs.Common.{◌≡◌, ℕ, ◌+◌, ◌-◌, ◌*◌, ◌≤◌, min, Bool, true, false, cond, leb, List, [], ◌++◌, length, ap, ◌∙◌, inl, inr, mul-le-mul_left, arith, length-append, rules}
+use Rattle.std.proofs.lemmas.Bool.{cases_lt, leb-true}
 use Rattle.collector.specs.declared.phase.Phase.{Phase}
-use Rattle.collector.specs.Lists.{AtMost, is_empty}
+use Rattle.collector.specs.Lists.{AtMost}
 use Rattle.collector.specs.States.{State, size}
-use Rattle.collector.specs.Turns.{Ground, scans, sweeps, freed, marked, ground, swept, turn_in, turn}
+use Rattle.collector.specs.Turns.{Ground, sweeps, freed, marked, ground, swept, turn_in, turn}
 use Rattle.collector.specs.Reach.{Reachable, free_list}
 use Rattle.collector.specs.Runs.{Keeps, Collection, onward_in}
 use Rattle.collector.specs.Laws.{turns_for, Enough}
@@ -35,46 +35,29 @@ marks-full Phase.Mark c s l p =
 marks-full Phase.Sweep c s l p = p.0
 
 pub sweeps-full : {V : Type 0} (ph : Phase) (c : Collection V) (s : State V) → PacedIn ph c s → SweepsFull s.fixed.k2 (size s) c
-sweeps-full Phase.Idle c s p = p.1
-sweeps-full Phase.Mark c s p = let z = p.1 in inl (omega arith)
-sweeps-full Phase.Sweep c s p =
-    elim p.2 [
-      | inl none ↦ inl (omega arith)
-      | inr below ↦ inr (let less : s.fixed.k2 * (c.sweep_turns - 1) ≤ s.fixed.k2 * c.sweep_turns = mul-le-mul_left s.fixed.k2 (omega arith) in let e = p.1 in omega arith)
-    ]
+sweeps-full x0 c s p = search (rules, mul-le-mul_left)
 
 -- No more mark turns than the reachable cells ask for.
-pub marks-few : {V : Type 0} (c : Collection V) (s : State V) → 1 ≤ s.fixed.k1 → Paced c s → (A : ℕ) → AtMost A (Reachable c.began) → c.mark_turns ≤ turns_for A s.fixed.k1
-marks-few c s l p A b =
-    let t = turns-bound c.mark_turns s.fixed.k1 (length c.scanned_cells) l (marks-full s.phase c s l p.paced) in
-    let m = turns-mono s.fixed.k1 (length c.scanned_cells) A l (b c.scanned_cells p.once p.were) in
-    omega arith
+pub marks-few : {V : Type 0} {c : Collection V} {s : State V} → 1 ≤ s.fixed.k1 → Paced c s → (A : ℕ) → AtMost A (Reachable c.began) → c.mark_turns ≤ turns_for A s.fixed.k1
+marks-few l p A b = search (rules, turns-bound, marks-full, turns-mono)
 
-module _ {V : Type 0} (A : ℕ) (c : Collection V) (s : State V) (i : Inv c s) (p : Paced c s) (enough : Enough A s.fixed.k1 s.fixed.k2 s.fixed.floor (size s)) where
+module _ {V : Type 0} {A : ℕ} {c : Collection V} {s : State V} (i : Inv c s) (p : Paced c s) (enough : Enough A s.fixed.k1 s.fixed.k2 s.fixed.floor (size s)) where
   abbrev M : ℕ
   M = s.fixed.floor
 
   module _ (marking : s.phase ≡ Phase.Mark) (stock : StockedIn Phase.Mark A M c s.pool.count) where
     marks : c.mark_turns + 1 ≤ turns_for A s.fixed.k1
-    marks = marks-few (after-mark s c) (marked s) i.grounded.scans_some (mark-pace c s i p marking) A stock.0
+    marks = marks-few i.grounded.scans_some (mark-pace i p marking) A stock.0
 
     left-in-mark : 1 ≤ s.pool.count
-    left-in-mark = let r = enough.reserve in let f = stock.1 in let e = stock.2 in let m = marks in omega arith
+    left-in-mark = search (rules, marks)
 
     marked-stock : (b : Bool) → PacedIn (cond b Phase.Sweep Phase.Mark) (after-mark s c) (marked s) → StockedIn (cond b Phase.Sweep Phase.Mark) A M (after-mark s c) (s.pool.count - 1)
-    marked-stock true q =
-        let zero-turns : c.sweep_turns ≡ 0 = no-sweeps in
-        let none : length c.freed_cells ≡ 0 = ap length stock.3 in
-        let l = left-in-mark in
-        let e = stock.2 in
-        (stock.0, stock.1, omega arith)
-      where
-        no-sweeps : c.sweep_turns ≡ 0
-        no-sweeps = (subst (λ (ph : Phase). PacedIn ph c s) marking p.paced).1
-    marked-stock false q = let l = left-in-mark in let e = stock.2 in (stock.0, stock.1, omega arith, stock.3)
+    marked-stock true q = search (rules, left-in-mark)
+    marked-stock false q = search (rules, left-in-mark)
 
     pub mark-stock : (1 ≤ s.pool.count) × StockedIn (marked s).phase A M (after-mark s c) (s.pool.count - 1)
-    mark-stock = (left-in-mark, marked-stock (is_empty (scans s.fixed.k1 s.heap).stack) (mark-pace c s i p marking).paced)
+    mark-stock = search (rules, left-in-mark, marked-stock, mark-pace)
 
   module _ (sweeping : s.phase ≡ Phase.Sweep) (stock : StockedIn Phase.Sweep A M c s.pool.count) where
     abbrev g : Ground
@@ -93,42 +76,37 @@ module _ {V : Type 0} (A : ℕ) (c : Collection V) (s : State V) (i : Inv c s) (
     turns = c.sweep_turns + 1
 
     after : Paced (after-sweep s c) (swept s)
-    after = sweep-pace c s i p sweeping
+    after = search sweep-pace
 
     same : length g.cells ≡ size s
-    same = (sweep-place c s i sweeping).0
+    same = (sweep-place i sweeping).0
 
     last-few : turns ≤ turns_for (size s) s.fixed.k2
-    last-few =
-        let t = turns-bound turns s.fixed.k2 (length g.cells) i.grounded.sweeps_some (sweeps-full (swept s).phase (after-sweep s c) (swept s) after.paced) in
-        subst (λ (n : ℕ). turns ≤ turns_for n s.fixed.k2) same t
+    last-few = search rules
 
     place : g.pool.sweeper ≡ min (s.fixed.k2 * turns) (size s)
-    place = place-now c s i p sweeping ∙ ap (min (s.fixed.k2 * turns)) same
+    place = search (rules, place-now, same)
 
     -- The sweep has passed freed cells, scanned cells, and cells that were free.
     cover : g.pool.sweeper ≤ fr + A + F
     cover =
         let all : List ℕ = (c.freed_cells ++ more) ++ (c.scanned_cells ++ free_list c.began) in
-        let passed = all-below g.pool.sweeper all (λ n l. elim ((swept_keeps c s i sweeping).core.log.cover n l) [
-          | inl a ↦ mem-left n (c.freed_cells ++ more) (c.scanned_cells ++ free_list c.began) a
-          | inr k ↦ mem-right n (c.freed_cells ++ more) (c.scanned_cells ++ free_list c.began) (elim k [
-            | inl b ↦ mem-left n c.scanned_cells (free_list c.began) b
-            | inr f ↦ mem-right n c.scanned_cells (free_list c.began) f
-          ])
+        let passed = all-below g.pool.sweeper all (λ n l. elim ((swept_keeps i sweeping).core.log.cover n l) [
+          | inl a ↦ search (rules, mem-left, a)
+          | inr k ↦ grind (arith, mem-right, n, c.freed_cells, more, c.scanned_cells, c.began, k, mem-left)
         ]) in
         let l1 = length-append (c.freed_cells ++ more) (c.scanned_cells ++ free_list c.began) in
         let l2 = length-append c.scanned_cells (free_list c.began) in
-        let few : length c.scanned_cells ≤ A = stock.0 c.scanned_cells p.once p.were in
+        let few : length c.scanned_cells ≤ A = search rules in
         let free = p.free-count in
         omega arith
 
     marks_then : c.mark_turns ≤ turns_for A s.fixed.k1
-    marks_then = marks-few c s i.grounded.scans_some p A stock.0
+    marks_then = search marks-few
 
     counted : g.pool.count + c.mark_turns + turns ≡ F + fr
     counted =
-        let a = (sweep-swept c s i sweeping).counted in
+        let a = (sweep-swept i sweeping).counted in
         let b = length-append c.freed_cells more in
         let e = stock.2 in
         omega arith
@@ -140,26 +118,20 @@ module _ {V : Type 0} (A : ℕ) (c : Collection V) (s : State V) (i : Inv c s) (
         omega arith
 
     swept-stock : (b : Bool) → leb (length g.cells) g.pool.sweeper ≡ b → StockedIn (cond b Phase.Idle Phase.Sweep) A M (after-sweep s c) (g.pool.count - 1)
-    swept-stock true e =
-        let done : g.pool.sweeper ≡ size s = (let x = leb-true (length g.cells) g.pool.sweeper e in let y = place in let z = same in omega arith) in
-        let l = sweep-ends A s.fixed.k1 s.fixed.k2 M (size s) F fr c.mark_turns turns g.pool.sweeper i.grounded.sweeps_some enough stock.1 marks_then last-few place cover done in
-        let k = counted in
-        omega arith
-    swept-stock false e = let l = left-in-sweep in let k = counted in (stock.0, stock.1, omega arith)
+    swept-stock true e = search (rules, leb-true, place, same, sweep-ends, marks_then, last-few, cover, counted)
+    swept-stock false e = search (rules, left-in-sweep, counted)
 
     pub sweep-stock : (1 ≤ g.pool.count) × StockedIn (swept s).phase A M (after-sweep s c) (g.pool.count - 1)
-    sweep-stock = (left-in-sweep, swept-stock (leb (length g.cells) g.pool.sweeper) refl)
+    sweep-stock = search (left-in-sweep, swept-stock)
 
   turn-stock-in : (ph : Phase) (says : Bool) → s.phase ≡ ph → AtMost A (Reachable s) → Keeps s says → StockedIn ph A M c s.pool.count
       → (1 ≤ (turn_in ph says s).pool.count) × StockedIn (turn_in ph says s).phase A M (onward_in ph says s c) ((turn_in ph says s).pool.count - 1)
-  turn-stock-in Phase.Idle true e b k stock = let r = enough.reserve in (omega arith, (b, stock, omega arith, refl))
-  turn-stock-in Phase.Idle false e b k stock =
-      let above : s.fixed.floor < s.pool.count = (elim (cases_lt s.fixed.floor s.pool.count) [ inl l ↦ l | inr l ↦ absurd (both_ways false refl (k e l)) ]) in
-      (omega arith, subst (λ (ph : Phase). StockedIn ph A M c (s.pool.count - 1)) (sym e) (omega arith))
+  turn-stock-in Phase.Idle true e b k stock = search rules
+  turn-stock-in Phase.Idle false e b k stock = search rules
   turn-stock-in Phase.Mark says e b k stock = mark-stock e stock
   turn-stock-in Phase.Sweep says e b k stock = sweep-stock e stock
 
   -- After a turn there is a free cell, and when it is taken the count is again as it should be.
   pub turn-stock : (says : Bool) → AtMost A (Reachable s) → Keeps s says → StockedIn s.phase A M c s.pool.count
       → (1 ≤ (turn says s).pool.count) × StockedIn (turn says s).phase A M (onward_in s.phase says s c) ((turn says s).pool.count - 1)
-  turn-stock says b k stock = turn-stock-in s.phase says refl b k stock
+  turn-stock says b k stock = search turn-stock-in

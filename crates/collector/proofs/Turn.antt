@@ -1,6 +1,6 @@
 -- A turn keeps the invariant. Assumes nothing.
-use Rattle.std.proofs.Common.{◌≡◌, ℕ, ◌+◌, ◌<◌, ◌≤◌, min, Bool, true, false, cond, leb, List, [], ◌++◌, length, sym, refl, ◌∙◌, subst, inl, inr, arith}
-use Rattle.std.proofs.lemmas.Bool.{both_ways, leb-true}
+use Rattle.std.proofs.Common.{◌≡◌, ℕ, ◌+◌, ◌<◌, ◌≤◌, min, Bool, true, false, cond, leb, List, [], ◌++◌, length, sym, refl, subst, inl, inr, arith, rules}
+use Rattle.std.proofs.lemmas.Bool.{both_ways}
 use Rattle.bank.specs.declared.word.Word.{Word}
 use Rattle.bank.specs.declared.word.Cell.{Cell}
 use Rattle.collector.specs.declared.phase.Phase.{Phase}
@@ -9,15 +9,14 @@ use Rattle.collector.specs.States.{Heap, Pool, State, at, roots}
 use Rattle.collector.specs.Turns.{Ground, offers, scans, scanned, sweeps, freed, begun, marked, ground, swept, turn_in, turn}
 use Rattle.collector.specs.Reach.{root, via, Reachable, Free}
 use Rattle.collector.specs.Runs.{Collection, beginning, onward_in}
-use Rattle.collector.specs.Laws.{Grounded}
 use Rattle.collector.proofs.Sets.{each_of, each_at, each_map, empty-is, mem-left}
 use Rattle.collector.proofs.Chains.{listed-is}
-use Rattle.collector.proofs.Same.{Same, Grown, core-same, done-grown}
+use Rattle.collector.proofs.Same.{Grown, core-same, done-grown}
 use Rattle.collector.proofs.Scan.{Ready, Marked, offers-marks, scans-marks, marking-ends}
 use Rattle.collector.proofs.Sweep.{Swept, sweeps-keep, sweeps-place}
 use Rattle.collector.proofs.Invariant.{Vacant, Sound, Closed, Live, Done, Kept, Marking, Sweeping, Past, Core, Phased, Inv}
 
-module _ {V : Type 0} (c : Collection V) (s : State V) (i : Inv c s) where
+module _ {V : Type 0} {c : Collection V} {s : State V} (i : Inv c s) where
   abbrev pub Used : ℕ → Type 0
   Used = Live (Reachable c.began) (Free c.began) s.pool.sweeper s.heap.cells
 
@@ -28,45 +27,36 @@ module _ {V : Type 0} (c : Collection V) (s : State V) (i : Inv c s) where
   cs = s.heap.cells
 
   pub sound-names : (w : Word) (n : ℕ) → Sound limit Used w → w ≡ Word.Cell n → Used n
-  sound-names w n h e = subst (Sound limit Used) e h
+  sound-names w n h e = search rules
 
   -- What is reachable is live.
   pub live_now : (n : ℕ) → Reachable s n → Used n
-  live_now n (root m) = each_at (Sound limit Used) (roots s) i.core.closed.words (Word.Cell n) m
-  live_now n (via {m = m} r (inl e)) = sound-names (at cs m).car n (i.core.closed.cars m (live_now m r)) e
-  live_now n (via {m = m} r (inr e)) = sound-names (at cs m).cdr n (i.core.closed.cdrs m (live_now m r)) e
+  live_now n (root m) = search (rules, each_at)
+  live_now n (via {m = m} r (inl e)) = search (rules, sound-names, live_now m r)
+  live_now n (via {m = m} r (inr e)) = search (rules, sound-names, live_now m r)
 
   -- The free cells are the vacant ones.
   pub free-is : (n : ℕ) → Free s n → Vacant cs n
-  free-is n m = i.core.listed.vacant n (subst (Mem n) (listed-is cs s.pool.head s.pool.count i.core.fs i.core.listed) m)
+  free-is n m = search (rules, listed-is)
 
   pub is_free : (n : ℕ) → Vacant cs n → Free s n
-  is_free n v = subst (Mem n) (sym (listed-is cs s.pool.head s.pool.count i.core.fs i.core.listed)) (i.core.listed.only n v)
+  is_free n v = search (rules, listed-is)
 
   -- The cells in use, seen from a collection that begins here.
   abbrev Anew : ℕ → Type 0
   Anew = Live (Reachable s) (Free s) 0 cs
 
-  anew : (n : ℕ) → Reachable s n → Anew n
-  anew n r = record { within = (live_now n r).within; used = (live_now n r).used; known = inr (inl r) }
-
   anew-reached : (n : ℕ) → Anew n → Reachable s n
-  anew-reached n l = elim l.known [
-    | inl b ↦ absurd (let bad : ⊥ = omega arith in bad)
-    | inr k ↦ elim k [ inl r ↦ r | inr f ↦ absurd (l.used (free-is n f)) ]
-  ]
+  anew-reached n l = search (rules, free-is)
 
   anew-sound : (w : Word) → ((m : ℕ) → w ≡ Word.Cell m → Reachable s m) → Sound limit Used w → Sound limit Anew w
-  anew-sound Word.Nil f h = tt
-  anew-sound (Word.Cell m) f h = anew m (f m refl)
-  anew-sound (Word.Atom k) f h = h
-  anew-sound Word.Reserved f h = h
+  anew-sound x0 f h = search rules
 
   abbrev pool-at-start : Pool
   pool-at-start = record { head = s.pool.head; count = s.pool.count; sweeper = 0 }
 
   pub past-now : Past (Reachable s) (Free s) (length cs)
-  past-now = record { inside = λ n r. (live_now n r).within; apart = λ n r f. (live_now n r).used (free-is n f) }
+  past-now = search (rules, live_now, free-is)
 
   closed-anew : Closed limit Anew cs (roots s)
   closed-anew = record {
@@ -77,43 +67,20 @@ module _ {V : Type 0} (c : Collection V) (s : State V) (i : Inv c s) where
   }
 
   core-anew : Core (Reachable s) (Free s) [] [] limit cs pool-at-start (roots s)
-  core-anew = record {
-    closed = closed-anew;
-    fs = i.core.fs;
-    listed = i.core.listed;
-    above = λ n v l. is_free n v;
-    past = past-now;
-    log = record {
-      once = tt;
-      only = λ n m. absurd m;
-      all = λ n l nr nf. absurd (let bad : ⊥ = omega arith in bad);
-      cover = λ n l. absurd (let bad : ⊥ = omega arith in bad);
-    };
-  }
+  core-anew = search (rules, closed-anew, is_free, past-now)
 
   module _ (idle : s.phase ≡ Phase.Idle) where
     quiet : (s.pool.sweeper ≡ length cs) × Sweeping (Reachable c.began) (Free c.began) s.pool.sweeper c.scanned_cells cs s.heap.stack
-    quiet = subst (λ (ph : Phase). Phased ph (Reachable c.began) (Free c.began) c.began.heap.cells (roots c.began) c.scanned_cells s.heap s.pool.sweeper) idle i.phased
+    quiet = search rules
 
     unmarked : (n : ℕ) → n < length cs → (at cs n).mark ≡ false
-    unmarked n l = quiet.1.low n (let e = quiet.0 in omega arith) l
+    unmarked n l = search rules
 
     kept-anew : (field : Cell → Word) (stack : List ℕ) → Kept field (Reachable s) cs [] cs stack
     kept-anew field stack m r = inr (inl (unmarked m (live_now m r).within), refl)
 
     marking-anew : Marking (Reachable s) (Free s) cs [] [] cs []
-    marking-anew = record {
-      holds = λ n l m. absurd (both_ways (at cs n).mark (unmarked n l) m);
-      taken = λ n f u. absurd (u (free-is n f));
-      waits = λ n m. absurd m;
-      scanned = λ n m. absurd m;
-      waits-once = tt;
-      scanned-once = tt;
-      apart = λ n m k. m;
-      all = λ n r m. absurd (both_ways (at cs n).mark (unmarked n (live_now n r).within) m);
-      keeps-car = kept-anew (λ x. x.car) [];
-      keeps-cdr = kept-anew (λ x. x.cdr) [];
-    }
+    marking-anew = search (rules, both_ways, unmarked, free-is, live_now, kept-anew)
 
     pub begun-marked : Marked (Reachable s) (Free s) limit (roots s) cs [] [] s.heap (offers (roots s) s.heap) (roots s)
     begun-marked = offers-marks (Reachable s) (Free s) limit (roots s) cs [] [] (roots s) s.heap
@@ -122,15 +89,7 @@ module _ {V : Type 0} (c : Collection V) (s : State V) (i : Inv c s) where
         (subst (Marking (Reachable s) (Free s) cs [] [] cs) (sym quiet.1.rest) marking-anew)
 
     pub begun-keeps : Inv (beginning s) (begun s)
-    begun-keeps =
-        let e : Same cs (offers (roots s) s.heap).cells = begun-marked.grown.same in
-        record {
-          grounded = subst (Grounded s.fixed) (sym e.len) i.grounded;
-          core = core-same (Reachable s) (Free s) [] [] limit cs (offers (roots s) s.heap).cells pool-at-start (roots s) e core-anew;
-          phased = (refl, begun-marked.marking, begun-marked.done);
-          same_size = sym e.len;
-          same-fixed = refl;
-        }
+    begun-keeps = search (rules, begun-marked, core-same, core-anew)
 
 -- The collection after a mark turn and after a sweep turn.
 abbrev pub after-mark : {V : Type 0} → State V → Collection V → Collection V
@@ -139,22 +98,10 @@ after-mark s c = onward_in Phase.Mark true s c
 abbrev pub after-sweep : {V : Type 0} → State V → Collection V → Collection V
 after-sweep s c = onward_in Phase.Sweep true s c
 
-core-popped : (R F : ℕ → Type 0) (popped more freed : List ℕ) (limit : ℕ) (cs : List Cell) (pool : Pool) (ws : List Word) → Core R F popped freed limit cs pool ws → Core R F (popped ++ more) freed limit cs pool ws
-core-popped R F popped more freed limit cs pool ws c = record {
-  closed = c.closed;
-  fs = c.fs;
-  listed = c.listed;
-  above = c.above;
-  past = c.past;
-  log = record {
-    once = c.log.once;
-    only = c.log.only;
-    all = c.log.all;
-    cover = λ n l. elim (c.log.cover n l) [ inl a ↦ inl a | inr k ↦ inr (elim k [ inl b ↦ inl (mem-left n popped more b) | inr f ↦ inr f ]) ];
-  };
-}
+core-popped : (R F : ℕ → Type 0) (popped more freed : List ℕ) (most : ℕ) (cells : List Cell) (pool : Pool) (ws : List Word) → Core R F popped freed most cells pool ws → Core R F (popped ++ more) freed most cells pool ws
+core-popped R F popped more freed most cells pool ws c = search (rules, mem-left)
 
-module _ {V : Type 0} (c : Collection V) (s : State V) (i : Inv c s) where
+module _ {V : Type 0} {c : Collection V} {s : State V} (i : Inv c s) where
   abbrev R : ℕ → Type 0
   R = Reachable c.began
 
@@ -166,15 +113,10 @@ module _ {V : Type 0} (c : Collection V) (s : State V) (i : Inv c s) where
 
   module _ (marking : s.phase ≡ Phase.Mark) where
     pub in-mark : (s.pool.sweeper ≡ 0) × Marking R F c.began.heap.cells [] c.scanned_cells s.heap.cells s.heap.stack × Each (Done s.heap.cells) (roots c.began)
-    in-mark = subst (λ (ph : Phase). Phased ph R F c.began.heap.cells (roots c.began) c.scanned_cells s.heap s.pool.sweeper) marking i.phased
+    in-mark = search rules
 
     pub mark-ready : Ready R F L (roots s) s.heap.cells
-    mark-ready = record {
-      few = i.grounded.few;
-      closed = subst (λ (p : ℕ). Closed L (Live R F p s.heap.cells) s.heap.cells (roots s)) in-mark.0 i.core.closed;
-      above = λ n v. i.core.above n v (let e = in-mark.0 in omega arith);
-      past = i.core.past;
-    }
+    mark-ready = search rules
 
     pub mark-marked : Marked R F L (roots s) c.began.heap.cells [] (c.scanned_cells ++ scanned s.fixed.k1 s.heap) s.heap (scans s.fixed.k1 s.heap) []
     mark-marked = scans-marks R F L (roots s) c.began.heap.cells s.fixed.k1 c.scanned_cells s.heap mark-ready in-mark.1
@@ -190,24 +132,14 @@ module _ {V : Type 0} (c : Collection V) (s : State V) (i : Inv c s) where
       where
         dones : Grown s.heap.cells h.cells → Each (Done h.cells) (roots c.began)
         dones g = each_map (Done s.heap.cells) (Done h.cells) (done-grown s.heap.cells h.cells g) (roots c.began) in-mark.2
-    after-phased false h e m =
-        (in-mark.0, m.marking, each_map (Done s.heap.cells) (Done h.cells) (done-grown s.heap.cells h.cells m.grown) (roots c.began) in-mark.2)
+    after-phased false h e m = search (rules, in-mark, each_map, done-grown)
 
     pub marked-keeps : Inv (after-mark s c) (marked s)
-    marked-keeps =
-        let h : Heap = scans s.fixed.k1 s.heap in
-        let e : Same s.heap.cells h.cells = mark-marked.grown.same in
-        record {
-          grounded = subst (Grounded s.fixed) (sym e.len) i.grounded;
-          core = core-same R F (c.scanned_cells ++ scanned s.fixed.k1 s.heap) c.freed_cells L s.heap.cells h.cells s.pool (roots s) e (core-popped R F c.scanned_cells (scanned s.fixed.k1 s.heap) c.freed_cells L s.heap.cells s.pool (roots s) i.core);
-          phased = after-phased (is_empty h.stack) h refl mark-marked;
-          same_size = i.same_size ∙ sym e.len;
-          same-fixed = i.same-fixed;
-        }
+    marked-keeps = search (rules, mark-marked, core-same, core-popped, after-phased)
 
   module _ (sweeping : s.phase ≡ Phase.Sweep) where
     pub in-sweep : (s.pool.sweeper ≤ length s.heap.cells) × Sweeping R F s.pool.sweeper c.scanned_cells s.heap.cells s.heap.stack
-    in-sweep = subst (λ (ph : Phase). Phased ph R F c.began.heap.cells (roots c.began) c.scanned_cells s.heap s.pool.sweeper) sweeping i.phased
+    in-sweep = search rules
 
     pub sweep-swept : Swept R F c.scanned_cells L (roots s) s.heap.stack c.freed_cells (freed L s.fixed.k2 (ground s)) (ground s) (sweeps L s.fixed.k2 (ground s))
     sweep-swept = sweeps-keep R F c.scanned_cells L (roots s) s.heap.stack s.fixed.k2 c.freed_cells (ground s) i.grounded.few i.grounded.wide i.core in-sweep.1
@@ -217,26 +149,18 @@ module _ {V : Type 0} (c : Collection V) (s : State V) (i : Inv c s) where
 
     swept-phased : (b : Bool) (g : Ground) → leb (length g.cells) g.pool.sweeper ≡ b → g.pool.sweeper ≤ length g.cells → Sweeping R F g.pool.sweeper c.scanned_cells g.cells s.heap.stack
         → Phased (cond b Phase.Idle Phase.Sweep) R F c.began.heap.cells (roots c.began) c.scanned_cells (record { cells = g.cells; stack = s.heap.stack }) g.pool.sweeper
-    swept-phased true g e l w = (let b = leb-true (length g.cells) g.pool.sweeper e in omega arith, w)
+    swept-phased true g e l w = search rules
     swept-phased false g e l w = (l, w)
 
     pub swept_keeps : Inv (after-sweep s c) (swept s)
-    swept_keeps =
-        let g : Ground = sweeps L s.fixed.k2 (ground s) in
-        record {
-          grounded = subst (Grounded s.fixed) (sym sweep-swept.len) i.grounded;
-          core = sweep-swept.core;
-          phased = swept-phased (leb (length g.cells) g.pool.sweeper) g refl (let a = sweep-place.0 in let b = sweep-place.1 in omega arith) sweep-swept.sweeping;
-          same_size = i.same_size ∙ sym sweep-swept.len;
-          same-fixed = i.same-fixed;
-        }
+    swept_keeps = search (rules, sweep-swept, swept-phased, sweep-place)
 
-turn-keeps-in : {V : Type 0} (ph : Phase) (says : Bool) (c : Collection V) (s : State V) → s.phase ≡ ph → Inv c s → Inv (onward_in ph says s c) (turn_in ph says s)
-turn-keeps-in Phase.Idle true c s e i = begun-keeps c s i e
-turn-keeps-in Phase.Idle false c s e i = i
-turn-keeps-in Phase.Mark says c s e i = marked-keeps c s i e
-turn-keeps-in Phase.Sweep says c s e i = swept_keeps c s i e
+turn-keeps-in : {V : Type 0} (ph : Phase) (says : Bool) {c : Collection V} {s : State V} → s.phase ≡ ph → Inv c s → Inv (onward_in ph says s c) (turn_in ph says s)
+turn-keeps-in Phase.Idle true e i = begun-keeps i e
+turn-keeps-in Phase.Idle false e i = i
+turn-keeps-in Phase.Mark says e i = marked-keeps i e
+turn-keeps-in Phase.Sweep says e i = swept_keeps i e
 
 -- A turn keeps the invariant.
-pub turn-keeps : {V : Type 0} (says : Bool) (c : Collection V) (s : State V) → Inv c s → Inv (onward_in s.phase says s c) (turn says s)
-turn-keeps says c s i = turn-keeps-in s.phase says c s refl i
+pub turn-keeps : {V : Type 0} (says : Bool) {c : Collection V} {s : State V} → Inv c s → Inv (onward_in s.phase says s c) (turn says s)
+turn-keeps says i = search turn-keeps-in

@@ -5,7 +5,7 @@ ghost use Rattle.collector.specs.declared.fault.StoreFault.{StoreFault};
 use bank::BankFault;
 
 // Why a call on a store is refused.
-#[derive(Clone, Copy)]
+#[derive(Clone, Copy, PartialEq, Eq, Debug)]
 pub enum StoreFault {
     // what the bank refuses, with its cause and place
     Bank(BankFault),
@@ -18,7 +18,7 @@ pub enum StoreFault {
 }
 
 impl StoreFault {
-    // The number by which reports name the refusal.
+    // The number by which reports name the refusal. No trait's: no code asks a fault of any type for its number.
     pub fn number(&self) -> u8
         ensures { result ≡ (told self.now).0 }
     {
@@ -31,7 +31,7 @@ impl StoreFault {
     }
 }
 
-// A bank's refusal passes up whole.
+// A bank's refusal passes up whole. By hand: what a derive of `From` writes promises nothing.
 impl From<BankFault> for StoreFault {
     ghost from_gives = { λ e f. f ≡ StoreFault.Bank e };
 

@@ -3,6 +3,7 @@ ghost use Rattle.collector.specs.Laws.{EveryRunLawful, EveryStateSafe, RefusalsH
 ghost use Rattle.collector.specs.Samples.{SampleRun};
 
 // Answers equal the endless heap's; every finished collection freed exactly; no starvation under the bound.
+#[tactic(auto, using(crate::proofs::Laws::every_run_lawful))]
 pub fn every_run_is_lawful<V>()
     ensures { EveryRunLawful V }
 {}
@@ -13,11 +14,13 @@ pub fn every_state_is_safe<V>()
 {}
 
 // What a refusal leaves as it was.
+#[tactic(auto, using(crate::proofs::Laws::refusals_harmless))]
 pub fn refusals_are_harmless<V>()
     ensures { RefusalsHarmless V }
 {}
 
 // How many turns a collection takes at most.
+#[tactic(auto, using(crate::proofs::Laws::collections_brief))]
 pub fn collections_are_brief<V>()
     ensures { CollectionsBrief V }
 {}

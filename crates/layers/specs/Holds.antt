@@ -1,14 +1,18 @@
 -- Cells kept in 16 places over a list of cells. Place i is for the cells n with n mod 16 = i; it keeps a cell with its row, n div 16.
-use Rattle.std.specs.Prelude.{◌≡◌, ℕ, suc, ◌+◌, ◌*◌, ◌/◌, ◌%◌, cond, List, [], ◌∷◌, length, replicate, ◌==◌, slice_index_or, refl}
+use Rattle.std.specs.Prelude.{◌≡◌, ℕ, suc, ◌+◌, ◌*◌, ◌/◌, ◌%◌, cond, Option, None, Some, List, [], ◌∷◌, length, replicate, ◌==◌, slice_index_or, refl}
 use Rattle.std.proofs.Common.{ap}
 use Rattle.bank.specs.declared.word.Word.{Word}
 use Rattle.bank.specs.declared.word.Cell.{Cell}
 use Rattle.bank.specs.Banks.{Sound, fits, changed}
 use Rattle.layers.specs.declared.hold.Hold.{Hold}
-use Rattle.layers.specs.declared.places.Place.{Place}
+use Rattle.layers.specs.declared.places.Kept.{Kept}
 
-unfoldable pub none_kept : List Place
-none_kept = replicate 16 Place.Empty
+unfoldable pub none_kept : List (Option Kept)
+none_kept = replicate 16 None
+
+-- What the place of cell n keeps once the cell is in it.
+abbrev pub kept_for : ℕ → Cell → Option Kept
+kept_for n cell = Some (record { row = n / 16; cell = cell })
 
 -- A kept word, or the word below where the kept one does not fit.
 abbrev pub fitted : ℕ → Word → Word → Word
@@ -23,19 +27,19 @@ merged limit kept below = record {
 }
 
 -- What a place lets see of cell n, given the cell below.
-abbrev pub seen_at : ℕ → Place → ℕ → Cell → Cell
-seen_at limit Place.Empty n below = below
-seen_at limit (Place.Kept row kept) n below = cond (row == n / 16) (merged limit kept below) below
+abbrev pub seen_at : ℕ → Option Kept → ℕ → Cell → Cell
+seen_at limit None n below = below
+seen_at limit (Some kept) n below = cond (kept.row == n / 16) (merged limit kept.cell below) below
 
-abbrev pub seen : ℕ → List Place → ℕ → Cell → Cell
-seen limit places n below = seen_at limit (slice_index_or places (n % 16) Place.Empty) n below
+abbrev pub seen : ℕ → List (Option Kept) → ℕ → Cell → Cell
+seen limit places n below = seen_at limit (slice_index_or places (n % 16) None) n below
 
 -- The cells below, from number n on, overwritten by those that are kept.
-abbrev pub held_from : ℕ → List Place → ℕ → List Cell → List Cell
+abbrev pub held_from : ℕ → List (Option Kept) → ℕ → List Cell → List Cell
 held_from limit places n [] = []
 held_from limit places n (x ∷ xs) = seen limit places n x ∷ held_from limit places (suc n) xs
 
-unfoldable pub held : ℕ → List Place → List Cell → List Cell
+unfoldable pub held : ℕ → List (Option Kept) → List Cell → List Cell
 held limit places below = held_from limit places 0 below
 
 -- What a hold shows, by the limit and the cells of the bank below.
@@ -43,22 +47,22 @@ abbrev pub hold_cells : {B : Type 0} → (B → ℕ) → (B → List Cell) → H
 hold_cells limit cells h = held (limit h.below) h.places.slots (cells h.below)
 
 -- The cells below once place i is written to them.
-unfoldable pub spilled : ℕ → Place → ℕ → List Cell → List Cell
-spilled limit Place.Empty i below = below
-spilled limit (Place.Kept row kept) i below = changed (merged limit kept) below (row * 16 + i)
+unfoldable pub spilled : ℕ → Option Kept → ℕ → List Cell → List Cell
+spilled limit None i below = below
+spilled limit (Some kept) i below = changed (merged limit kept.cell) below (kept.row * 16 + i)
 
 -- The same, where the place keeps a cell of another number than n.
-unfoldable pub evicted : ℕ → Place → ℕ → List Cell → List Cell
-evicted limit Place.Empty n below = below
-evicted limit (Place.Kept row kept) n below = cond (row == n / 16) below (spilled limit (Place.Kept row kept) (n % 16) below)
+unfoldable pub evicted : ℕ → Option Kept → ℕ → List Cell → List Cell
+evicted limit None n below = below
+evicted limit (Some kept) n below = cond (kept.row == n / 16) below (spilled limit (Some kept) (n % 16) below)
 
-length_from : (limit : ℕ) (places : List Place) (n : ℕ) (below : List Cell) → length (held_from limit places n below) ≡ length below
+length_from : (limit : ℕ) (places : List (Option Kept)) (n : ℕ) (below : List Cell) → length (held_from limit places n below) ≡ length below
 length_from limit places n [] = refl
 length_from limit places n (x ∷ xs) = ap suc (length_from limit places (suc n) xs)
 
-pub length-held : (limit : ℕ) (places : List Place) (below : List Cell) → length (held limit places below) ≡ length below
+pub length-held : (limit : ℕ) (places : List (Option Kept)) (below : List Cell) → length (held limit places below) ≡ length below
 unfolding held
 length-held limit places below = length_from limit places 0 below
 
-pub sound-hold : (places : List Place) {limit : ℕ} {below : List Cell} → Sound limit below → Sound limit (held limit places below)
+pub sound-hold : (places : List (Option Kept)) {limit : ℕ} {below : List Cell} → Sound limit below → Sound limit (held limit places below)
 sound-hold places h = record { few = rw length-held h.few; wide = h.wide }

@@ -1,11 +1,11 @@
-ghost use Rattle.std.specs.Prelude.{◌≡◌, ◌/◌, ◌%◌, ◌<◌, length, is_ok, if◌then◌else◌, slice_index_or, slice_set};
-ghost use Rattle.bank.specs.Words.{blank, with_car, with_cdr, with_mark};
-ghost use Rattle.bank.specs.Banks.{word_taken, mark_taken, word_put, changed};
-ghost use Rattle.layers.specs.declared.places.Place.{Place};
-ghost use Rattle.layers.specs.Holds.{none_kept, merged, hold_cells, spilled, evicted, sound-hold};
+ghost use Rattle.std.specs.Prelude.{◌≡◌, ◌%◌, ◌<◌, None, Option, length, is_ok, if◌then◌else◌, slice_index_or, slice_set};
+ghost use Rattle.bank.specs.Words.{blank, with_change};
+ghost use Rattle.bank.specs.Banks.{change_taken, change_put};
+ghost use Rattle.layers.specs.declared.places.Kept.{Kept};
+ghost use Rattle.layers.specs.Holds.{none_kept, kept_for, merged, hold_cells, spilled, evicted, sound-hold};
 
-use super::places::{Place, Places};
-use bank::{Bank, BankFault, Cell, Word};
+use super::places::Places;
+use bank::{Bank, BankFault, Cell, Change};
 
 // Keeps written cells in 16 places, and writes one below only when another needs its place.
 #[derive(Drop)]
@@ -46,32 +46,27 @@ impl<B: Bank> Hold<B> {
         }
     }
 
-    // Writes place i below and empties it.
-    fn spill(&mut self, i: u32)
-        requires { i < 16 }
-        ensures below { B.Bank.cells self.new.below ≡ spilled (B.Bank.limit self.old.below) (slice_index_or self.old.places.slots i Place.Empty) i (B.Bank.cells self.old.below) }
-        ensures empty { self.new.places.slots ≡ slice_set self.old.places.slots i Place.Empty }
-        ensures full { length self.old.places.slots ≡ 16 }
+    // Empties the place of cell n, and writes below what it kept.
+    fn spill(&mut self, n: u32)
+        ensures below { B.Bank.cells self.new.below ≡ spilled (B.Bank.limit self.old.below) (slice_index_or self.old.places.slots (n % 16) None) (n % 16) (B.Bank.cells self.old.below) }
+        ensures empty { self.new.places.slots ≡ slice_set self.old.places.slots (n % 16) None }
         ensures fixed { B.Bank.limit self.new.below ≡ B.Bank.limit self.old.below }
     {
-        let Place::Kept(row, cell) = self.places.get(i) else {
-            return;
-        };
-        self.below.write_cell(u32::from(row) * 16 + i, cell);
-        self.places.put(i, Place::Empty);
+        if let Some(kept) = self.places.take(n) {
+            self.below.write_cell(kept.number(n), kept.cell);
+        }
     }
 
     // Makes room for cell n.
     fn evict(&mut self, n: u32)
-        ensures below { B.Bank.cells self.new.below ≡ evicted (B.Bank.limit self.old.below) (slice_index_or self.old.places.slots (n % 16) Place.Empty) n (B.Bank.cells self.old.below) }
-        ensures rest { (p : Place) → slice_set self.new.places.slots (n % 16) p ≡ slice_set self.old.places.slots (n % 16) p }
-        ensures full { length self.old.places.slots ≡ 16 }
+        ensures below { B.Bank.cells self.new.below ≡ evicted (B.Bank.limit self.old.below) (slice_index_or self.old.places.slots (n % 16) None) n (B.Bank.cells self.old.below) }
+        ensures rest { (p : Option Kept) → slice_set self.new.places.slots (n % 16) p ≡ slice_set self.old.places.slots (n % 16) p }
         ensures fixed { B.Bank.limit self.new.below ≡ B.Bank.limit self.old.below }
     {
-        if let Place::Kept(row, _) = self.places.get(n % 16) {
-            if u32::from(row) != n / 16 {
-                self.spill(n % 16);
-            }
+        if let Some(kept) = self.places.get(n)
+            && !kept.is_cell(n)
+        {
+            self.spill(n);
         }
     }
 
@@ -80,8 +75,8 @@ impl<B: Bank> Hold<B> {
         requires here { n < length (B.Bank.cells self.old.below) }
         requires whole { merged (B.Bank.limit self.old.below) cell (slice_index_or (B.Bank.cells self.old.below) n blank) ≡ cell }
         ensures after { hold_cells B.Bank.limit B.Bank.cells self.new ≡ slice_set (hold_cells B.Bank.limit B.Bank.cells self.old) n cell }
-        ensures kept { self.new.places.slots ≡ slice_set self.old.places.slots (n % 16) (Place.Kept (n / 16) cell) }
-        ensures below { B.Bank.cells self.new.below ≡ evicted (B.Bank.limit self.old.below) (slice_index_or self.old.places.slots (n % 16) Place.Empty) n (B.Bank.cells self.old.below) }
+        ensures kept { self.new.places.slots ≡ slice_set self.old.places.slots (n % 16) (kept_for n cell) }
+        ensures below { B.Bank.cells self.new.below ≡ evicted (B.Bank.limit self.old.below) (slice_index_or self.old.places.slots (n % 16) None) n (B.Bank.cells self.old.below) }
         ensures fixed { B.Bank.limit self.new.below ≡ B.Bank.limit self.old.below }
     {
         self.evict(n);
@@ -109,39 +104,15 @@ impl<B: Bank> Bank for Hold<B> {
         Ok(self.places.over(self.below.word_limit(), n, below))
     }
 
-    fn set_car(&mut self, n: u32, word: Word) -> Result<(), BankFault>
-        ensures answer { result ≡ word_taken (B.Bank.limit self.old.below) (hold_cells B.Bank.limit B.Bank.cells self.old) n word }
-        ensures after { hold_cells B.Bank.limit B.Bank.cells self.new ≡ word_put with_car (B.Bank.limit self.old.below) (hold_cells B.Bank.limit B.Bank.cells self.old) n word }
+    fn set(&mut self, n: u32, change: Change) -> Result<(), BankFault>
+        ensures answer { result ≡ change_taken (B.Bank.limit self.old.below) (hold_cells B.Bank.limit B.Bank.cells self.old) n change }
+        ensures after { hold_cells B.Bank.limit B.Bank.cells self.new ≡ change_put (B.Bank.limit self.old.below) (hold_cells B.Bank.limit B.Bank.cells self.old) n change }
         ensures fixed { B.Bank.limit self.new.below ≡ B.Bank.limit self.old.below }
-        ensures kept { self.new.places.slots ≡ (if is_ok result then slice_set self.old.places.slots (n % 16) (Place.Kept (n / 16) (with_car word (slice_index_or (hold_cells B.Bank.limit B.Bank.cells self.old) n blank))) else self.old.places.slots) }
-        ensures below { B.Bank.cells self.new.below ≡ (if is_ok result then evicted (B.Bank.limit self.old.below) (slice_index_or self.old.places.slots (n % 16) Place.Empty) n (B.Bank.cells self.old.below) else B.Bank.cells self.old.below) }
+        ensures kept { self.new.places.slots ≡ (if is_ok result then slice_set self.old.places.slots (n % 16) (kept_for n (with_change change (slice_index_or (hold_cells B.Bank.limit B.Bank.cells self.old) n blank))) else self.old.places.slots) }
+        ensures below { B.Bank.cells self.new.below ≡ (if is_ok result then evicted (B.Bank.limit self.old.below) (slice_index_or self.old.places.slots (n % 16) None) n (B.Bank.cells self.old.below) else B.Bank.cells self.old.below) }
     {
-        let cell = self.writable(n, word)?;
-        self.keep(n, cell.with_car(word));
-        Ok(())
-    }
-
-    fn set_cdr(&mut self, n: u32, word: Word) -> Result<(), BankFault>
-        ensures answer { result ≡ word_taken (B.Bank.limit self.old.below) (hold_cells B.Bank.limit B.Bank.cells self.old) n word }
-        ensures after { hold_cells B.Bank.limit B.Bank.cells self.new ≡ word_put with_cdr (B.Bank.limit self.old.below) (hold_cells B.Bank.limit B.Bank.cells self.old) n word }
-        ensures fixed { B.Bank.limit self.new.below ≡ B.Bank.limit self.old.below }
-        ensures kept { self.new.places.slots ≡ (if is_ok result then slice_set self.old.places.slots (n % 16) (Place.Kept (n / 16) (with_cdr word (slice_index_or (hold_cells B.Bank.limit B.Bank.cells self.old) n blank))) else self.old.places.slots) }
-        ensures below { B.Bank.cells self.new.below ≡ (if is_ok result then evicted (B.Bank.limit self.old.below) (slice_index_or self.old.places.slots (n % 16) Place.Empty) n (B.Bank.cells self.old.below) else B.Bank.cells self.old.below) }
-    {
-        let cell = self.writable(n, word)?;
-        self.keep(n, cell.with_cdr(word));
-        Ok(())
-    }
-
-    fn set_mark(&mut self, n: u32, mark: bool) -> Result<(), BankFault>
-        ensures answer { result ≡ mark_taken (hold_cells B.Bank.limit B.Bank.cells self.old) n }
-        ensures after { hold_cells B.Bank.limit B.Bank.cells self.new ≡ changed (with_mark mark) (hold_cells B.Bank.limit B.Bank.cells self.old) n }
-        ensures fixed { B.Bank.limit self.new.below ≡ B.Bank.limit self.old.below }
-        ensures kept { self.new.places.slots ≡ (if is_ok result then slice_set self.old.places.slots (n % 16) (Place.Kept (n / 16) (with_mark mark (slice_index_or (hold_cells B.Bank.limit B.Bank.cells self.old) n blank))) else self.old.places.slots) }
-        ensures below { B.Bank.cells self.new.below ≡ (if is_ok result then evicted (B.Bank.limit self.old.below) (slice_index_or self.old.places.slots (n % 16) Place.Empty) n (B.Bank.cells self.old.below) else B.Bank.cells self.old.below) }
-    {
-        let cell = self.cell(n)?;
-        self.keep(n, cell.with_mark(mark));
+        let cell = self.writable(n, change.word())?;
+        self.keep(n, cell.with(change));
         Ok(())
     }
 }

@@ -1,9 +1,8 @@
 ghost use Rattle.std.specs.Prelude.{◌≡◌, ◌++◌, length, Ok};
-ghost use Rattle.bank.specs.Words.{with_car, with_cdr, with_mark};
-ghost use Rattle.bank.specs.Banks.{on_cell, word_taken, mark_taken, word_put, changed};
+ghost use Rattle.bank.specs.Banks.{on_cell, change_taken, change_put};
 ghost use Rattle.layers.specs.Joins.{join_cells, join_limit, beyond, side_of, sound-join};
 
-use bank::{Bank, BankFault, Cell, Word};
+use bank::{Bank, BankFault, Cell, Change};
 
 // The cells of two banks, one after the other: the first 4,096 in all.
 #[derive(Drop)]
@@ -13,7 +12,7 @@ pub struct Join<F, G> {
 }
 
 // Where a cell of a join lies, with its number there.
-#[derive(Clone, Copy)]
+#[derive(Clone, Copy, PartialEq, Eq, Debug)]
 enum Side {
     First(u32),
     Second(u32),
@@ -72,54 +71,20 @@ impl<F: Bank, G: Bank> Bank for Join<F, G> {
         }
     }
 
-    fn set_car(&mut self, n: u32, word: Word) -> Result<(), BankFault>
-        ensures answer { result ≡ word_taken (join_limit F.Bank.limit G.Bank.limit self.old) (join_cells F.Bank.cells G.Bank.cells self.old) n word }
-        ensures after { join_cells F.Bank.cells G.Bank.cells self.new ≡ word_put with_car (join_limit F.Bank.limit G.Bank.limit self.old) (join_cells F.Bank.cells G.Bank.cells self.old) n word }
-        ensures fixed { join_limit F.Bank.limit G.Bank.limit self.new ≡ join_limit F.Bank.limit G.Bank.limit self.old }
-        ensures first { F.Bank.cells self.new.first ≡ word_put with_car (join_limit F.Bank.limit G.Bank.limit self.old) (F.Bank.cells self.old.first) n word }
-        ensures both { F.Bank.cells self.new.first ++ G.Bank.cells self.new.second ≡ word_put with_car (join_limit F.Bank.limit G.Bank.limit self.old) (join_cells F.Bank.cells G.Bank.cells self.old) n word ++ beyond (F.Bank.cells self.old.first) (G.Bank.cells self.old.second) }
+    fn set(&mut self, n: u32, change: Change) -> Result<(), BankFault>
+        ensures answer { result ≡ change_taken (join_limit F.Bank.limit G.Bank.limit self.old) (join_cells F.Bank.cells G.Bank.cells self.old) n change }
+        ensures after { join_cells F.Bank.cells G.Bank.cells self.new ≡ change_put (join_limit F.Bank.limit G.Bank.limit self.old) (join_cells F.Bank.cells G.Bank.cells self.old) n change }
+        ensures first { F.Bank.cells self.new.first ≡ change_put (join_limit F.Bank.limit G.Bank.limit self.old) (F.Bank.cells self.old.first) n change }
+        ensures both { F.Bank.cells self.new.first ++ G.Bank.cells self.new.second ≡ change_put (join_limit F.Bank.limit G.Bank.limit self.old) (join_cells F.Bank.cells G.Bank.cells self.old) n change ++ beyond (F.Bank.cells self.old.first) (G.Bank.cells self.old.second) }
         ensures first_limit { F.Bank.limit self.new.first ≡ F.Bank.limit self.old.first }
         ensures second_limit { G.Bank.limit self.new.second ≡ G.Bank.limit self.old.second }
     {
         let side = self.side(n)?;
         // The wider bank would take a word that the join must refuse.
-        word.within(self.word_limit())?;
+        change.word().within(self.word_limit())?;
         match side {
-            Side::First(m) => self.first.set_car(m, word),
-            Side::Second(m) => self.second.set_car(m, word),
-        }
-    }
-
-    fn set_cdr(&mut self, n: u32, word: Word) -> Result<(), BankFault>
-        ensures answer { result ≡ word_taken (join_limit F.Bank.limit G.Bank.limit self.old) (join_cells F.Bank.cells G.Bank.cells self.old) n word }
-        ensures after { join_cells F.Bank.cells G.Bank.cells self.new ≡ word_put with_cdr (join_limit F.Bank.limit G.Bank.limit self.old) (join_cells F.Bank.cells G.Bank.cells self.old) n word }
-        ensures fixed { join_limit F.Bank.limit G.Bank.limit self.new ≡ join_limit F.Bank.limit G.Bank.limit self.old }
-        ensures first { F.Bank.cells self.new.first ≡ word_put with_cdr (join_limit F.Bank.limit G.Bank.limit self.old) (F.Bank.cells self.old.first) n word }
-        ensures both { F.Bank.cells self.new.first ++ G.Bank.cells self.new.second ≡ word_put with_cdr (join_limit F.Bank.limit G.Bank.limit self.old) (join_cells F.Bank.cells G.Bank.cells self.old) n word ++ beyond (F.Bank.cells self.old.first) (G.Bank.cells self.old.second) }
-        ensures first_limit { F.Bank.limit self.new.first ≡ F.Bank.limit self.old.first }
-        ensures second_limit { G.Bank.limit self.new.second ≡ G.Bank.limit self.old.second }
-    {
-        let side = self.side(n)?;
-        word.within(self.word_limit())?;
-        match side {
-            Side::First(m) => self.first.set_cdr(m, word),
-            Side::Second(m) => self.second.set_cdr(m, word),
-        }
-    }
-
-    fn set_mark(&mut self, n: u32, mark: bool) -> Result<(), BankFault>
-        ensures answer { result ≡ mark_taken (join_cells F.Bank.cells G.Bank.cells self.old) n }
-        ensures after { join_cells F.Bank.cells G.Bank.cells self.new ≡ changed (with_mark mark) (join_cells F.Bank.cells G.Bank.cells self.old) n }
-        ensures fixed { join_limit F.Bank.limit G.Bank.limit self.new ≡ join_limit F.Bank.limit G.Bank.limit self.old }
-        ensures first { F.Bank.cells self.new.first ≡ changed (with_mark mark) (F.Bank.cells self.old.first) n }
-        ensures both { F.Bank.cells self.new.first ++ G.Bank.cells self.new.second ≡ changed (with_mark mark) (join_cells F.Bank.cells G.Bank.cells self.old) n ++ beyond (F.Bank.cells self.old.first) (G.Bank.cells self.old.second) }
-        ensures first_limit { F.Bank.limit self.new.first ≡ F.Bank.limit self.old.first }
-        ensures second_limit { G.Bank.limit self.new.second ≡ G.Bank.limit self.old.second }
-    {
-        let side = self.side(n)?;
-        match side {
-            Side::First(m) => self.first.set_mark(m, mark),
-            Side::Second(m) => self.second.set_mark(m, mark),
+            Side::First(m) => self.first.set(m, change),
+            Side::Second(m) => self.second.set(m, change),
         }
     }
 }

@@ -8,5 +8,5 @@ mod window;
 
 pub use hold::Hold;
 pub use join::Join;
-pub use places::{Place, Places};
+pub use places::{Kept, Places};
 pub use window::Window;

@@ -1,62 +1,76 @@
-ghost use Rattle.std.specs.Prelude.{◌≡◌, ◌/◌, ◌%◌, ◌<◌, length, slice_index_or, slice_set};
-ghost use Rattle.layers.specs.declared.places.Place.{Place};
-ghost use Rattle.layers.specs.Holds.{none_kept, fitted, merged, seen};
+ghost use Rattle.std.specs.Prelude.{◌≡◌, ◌+◌, ◌*◌, ◌/◌, ◌%◌, ◌<◌, ◌==◌, None, slice_index_or, slice_set};
+ghost use Rattle.layers.specs.Holds.{none_kept, kept_for, fitted, merged, seen};
 
 use bank::{Cell, Word};
 
-// A place keeps nothing, or a cell with its row: that of cell n is n / 16.
-#[derive(Clone, Copy)]
-pub enum Place {
-    Empty,
-    Kept(u8, Cell),
+// A kept cell with its row: that of cell n is n / 16.
+#[derive(Clone, Copy, PartialEq, Eq, Debug)]
+pub struct Kept {
+    row: u8,
+    pub(super) cell: Cell,
 }
 
 // Place i is for the cells whose number leaves i on division by 16.
-#[derive(Clone, Copy)]
+#[derive(Clone, Copy, PartialEq, Eq, Debug)]
 pub struct Places {
-    slots: [Place; 16],
+    slots: [Option<Kept>; 16],
+}
+
+impl Kept {
+    // The number of the cell, where cell n has the same place.
+    pub(super) fn number(&self, n: u32) -> u32
+        ensures { result ≡ self.now.row * 16 + n % 16 }
+    {
+        u32::from(self.row) * 16 + n % 16
+    }
+
+    // Whether it is cell n, which has the same place.
+    pub(super) fn is_cell(&self, n: u32) -> bool
+        ensures { result ≡ (self.now.row == n / 16) }
+    {
+        u32::from(self.row) == n / 16
+    }
 }
 
 impl Places {
     pub fn empty() -> Places
         ensures { result.slots ≡ none_kept }
     {
-        Places {
-            slots: [Place::Empty; 16],
-        }
+        Places { slots: [None; 16] }
     }
 
-    pub(super) fn get(&self, i: u32) -> Place
-        requires { i < 16 }
-        ensures value { result ≡ slice_index_or self.now.slots i Place.Empty }
-        ensures full { length self.now.slots ≡ 16 }
+    // What the place of cell n keeps.
+    pub(super) fn get(&self, n: u32) -> Option<Kept>
+        ensures { result ≡ slice_index_or self.now.slots (n % 16) None }
     {
-        self.slots[i as usize]
+        self.slots[(n % 16) as usize]
     }
 
-    pub(super) fn put(&mut self, i: u32, place: Place)
-        requires { i < 16 }
-        ensures after { self.new.slots ≡ slice_set self.old.slots i place }
-        ensures full { length self.old.slots ≡ 16 }
+    // The same, and the place keeps nothing then.
+    pub(super) fn take(&mut self, n: u32) -> Option<Kept>
+        ensures value { result ≡ slice_index_or self.old.slots (n % 16) None }
+        ensures after { self.new.slots ≡ slice_set self.old.slots (n % 16) None }
     {
-        self.slots[i as usize] = place;
+        self.slots[(n % 16) as usize].take()
     }
 
     // Keeps cell n in its place.
     pub(super) fn keep(&mut self, n: u32, cell: Cell)
         requires { n < 4096 }
-        ensures after { self.new.slots ≡ slice_set self.old.slots (n % 16) (Place.Kept (n / 16) cell) }
-        ensures full { length self.old.slots ≡ 16 }
+        ensures { self.new.slots ≡ slice_set self.old.slots (n % 16) (kept_for n cell) }
     {
-        self.put(n % 16, Place::Kept((n / 16) as u8, cell));
+        self.slots[(n % 16) as usize] = Some(Kept {
+            row: (n / 16) as u8,
+            cell,
+        });
     }
 
     // What is seen of cell n, given the cell below.
     pub fn over(&self, limit: u32, n: u32, below: Cell) -> Cell
         ensures { result ≡ seen limit self.now.slots n below }
     {
-        match self.get(n % 16) {
-            Place::Kept(row, kept) if u32::from(row) == n / 16 => merge(limit, kept, below),
+        match self.get(n) {
+            Some(kept) if kept.is_cell(n) => merge(limit, kept.cell, below),
             _ => below,
         }
     }

@@ -1,9 +1,8 @@
 ghost use Rattle.std.specs.Prelude.{◌≡◌, ◌+◌, ◌<◌, ◌≤◌, length, Ok};
-ghost use Rattle.bank.specs.Words.{with_car, with_cdr, with_mark};
-ghost use Rattle.bank.specs.Banks.{on_cell, word_taken, mark_taken, word_put, changed};
+ghost use Rattle.bank.specs.Banks.{on_cell, change_taken, change_put};
 ghost use Rattle.layers.specs.Windows.{window_cells, framed, sound-window};
 
-use bank::{Bank, BankFault, Cell, Word};
+use bank::{Bank, BankFault, Cell, Change};
 
 // The cells of the bank below from `offset` on, at most `len` of them, numbered from 0.
 #[derive(Drop)]
@@ -68,39 +67,15 @@ impl<B: Bank> Bank for Window<B> {
         self.below.cell(m)
     }
 
-    fn set_car(&mut self, n: u32, word: Word) -> Result<(), BankFault>
-        ensures answer { result ≡ word_taken (B.Bank.limit self.old.below) (window_cells B.Bank.cells self.old) n word }
-        ensures after { window_cells B.Bank.cells self.new ≡ word_put with_car (B.Bank.limit self.old.below) (window_cells B.Bank.cells self.old) n word }
+    fn set(&mut self, n: u32, change: Change) -> Result<(), BankFault>
+        ensures answer { result ≡ change_taken (B.Bank.limit self.old.below) (window_cells B.Bank.cells self.old) n change }
+        ensures after { window_cells B.Bank.cells self.new ≡ change_put (B.Bank.limit self.old.below) (window_cells B.Bank.cells self.old) n change }
         ensures fixed { B.Bank.limit self.new.below ≡ B.Bank.limit self.old.below }
-        ensures framed { B.Bank.cells self.new.below ≡ framed self.old.offset self.old.len (B.Bank.cells self.old.below) (word_put with_car (B.Bank.limit self.old.below) (window_cells B.Bank.cells self.old) n word) }
+        ensures framed { B.Bank.cells self.new.below ≡ framed self.old.offset self.old.len (B.Bank.cells self.old.below) (change_put (B.Bank.limit self.old.below) (window_cells B.Bank.cells self.old) n change) }
         ensures offset { self.new.offset ≡ self.old.offset }
         ensures len { self.new.len ≡ self.old.len }
     {
         let m = self.number_below(n)?;
-        self.below.set_car(m, word)
-    }
-
-    fn set_cdr(&mut self, n: u32, word: Word) -> Result<(), BankFault>
-        ensures answer { result ≡ word_taken (B.Bank.limit self.old.below) (window_cells B.Bank.cells self.old) n word }
-        ensures after { window_cells B.Bank.cells self.new ≡ word_put with_cdr (B.Bank.limit self.old.below) (window_cells B.Bank.cells self.old) n word }
-        ensures fixed { B.Bank.limit self.new.below ≡ B.Bank.limit self.old.below }
-        ensures framed { B.Bank.cells self.new.below ≡ framed self.old.offset self.old.len (B.Bank.cells self.old.below) (word_put with_cdr (B.Bank.limit self.old.below) (window_cells B.Bank.cells self.old) n word) }
-        ensures offset { self.new.offset ≡ self.old.offset }
-        ensures len { self.new.len ≡ self.old.len }
-    {
-        let m = self.number_below(n)?;
-        self.below.set_cdr(m, word)
-    }
-
-    fn set_mark(&mut self, n: u32, mark: bool) -> Result<(), BankFault>
-        ensures answer { result ≡ mark_taken (window_cells B.Bank.cells self.old) n }
-        ensures after { window_cells B.Bank.cells self.new ≡ changed (with_mark mark) (window_cells B.Bank.cells self.old) n }
-        ensures fixed { B.Bank.limit self.new.below ≡ B.Bank.limit self.old.below }
-        ensures framed { B.Bank.cells self.new.below ≡ framed self.old.offset self.old.len (B.Bank.cells self.old.below) (changed (with_mark mark) (window_cells B.Bank.cells self.old) n) }
-        ensures offset { self.new.offset ≡ self.old.offset }
-        ensures len { self.new.len ≡ self.old.len }
-    {
-        let m = self.number_below(n)?;
-        self.below.set_mark(m, mark)
+        self.below.set(m, change)
     }
 }

@@ -1,54 +1,110 @@
--- A memory of packed cells, under a write and when it is cleared.
-use Rattle.std.proofs.Common.{◌≡◌, ℕ, zero, suc, ◌<◌, min, List, [], ◌∷◌, map, length, get_or, set, replicate, sym, refl, ap, ◌∙◌, subst}
+-- A memory of any elements, when it is cleared, read and changed.
+use Rattle.std.proofs.Common.{◌≡◌, ℕ, ◌<◌, min, true, List, ◌++◌, map, length, take, drop, get_or, set, replicate, Ok, Err, sym, ap, ◌∙◌, subst}
 use lib.LanesLaws.{map-replicate}
 use Rattle.std.proofs.lemmas.List.{length-map, map-set, get_or-map}
 use Rattle.bank.specs.declared.word.Cell.{Cell}
-use Rattle.bank.specs.Words.{blank}
-use Rattle.memory.specs.Memories.{front, cleared}
-use Rattle.memory.specs.Packing.{packed, unpacked, Narrow}
-use Rattle.memory.specs.Packs.{shown, Packed, stored}
-use Rattle.memory.proofs.Fields.{reads-back, read-narrow}
-use Rattle.memory.proofs.Fronts.{front-set, set-over, get_or-front, front-cleared}
+use Rattle.bank.specs.declared.word.Change.{Change}
+use Rattle.bank.specs.declared.word.Word.{Word}
+use Rattle.bank.specs.declared.fault.BankFault.{BankFault}
+use Rattle.bank.specs.Words.{blank, word_in, with_change}
+use Rattle.bank.specs.Banks.{fits, asked, writable, change_taken, change_put}
+use Rattle.bank.proofs.Laws.{on_cell-here, writable-ok, put-here, put_refused}
+use Rattle.memory.specs.Memories.{front, cleared, shown, stored, Packed}
+use Rattle.memory.proofs.Fronts.{length_front, within-front, front-set, set-over, get_or-front, front-cleared, filled}
 
-pub length-shown : (m : List ℕ) → length (shown m) ≡ length (front m)
-unfolding shown
-length-shown m = length-map (front m) unpacked
+module _ {X : Type 0} (shows : X → Cell) (m : List X) where
+  length-shown : length (shown shows m) ≡ length (front m)
+  unfolding shown
+  length-shown = length-map (front m) shows
 
-pub get_or-shown : (m : List ℕ) (n : ℕ) → n < length (front m) → unpacked (get_or m n 0) ≡ get_or (shown m) n blank
-unfolding shown
-get_or-shown m n h = ap unpacked (get_or-front m n 0 h) ∙ sym (get_or-map unpacked (front m) n 0 blank h)
+  pub shown_length : length (shown shows m) ≡ min (length m) 4096
+  shown_length = length-shown ∙ length_front m
 
--- Writing the packing of c at n is writing c at n.
-pub shown-set : (m : List ℕ) (n : ℕ) (c : Cell) → Narrow c → n < length (front m) → shown (set m n (packed c)) ≡ set (shown m) n c
-unfolding shown
-shown-set m n c narrow h =
-    ap (map unpacked) (front-set m n (packed c))
-    ∙ map-set unpacked (front m) n (packed c)
-    ∙ ap (set (map unpacked (front m)) n) (reads-back c narrow)
+  get_or-shown : (n : ℕ) (d : X) → n < length (front m) → shows (get_or m n d) ≡ get_or (shown shows m) n blank
+  unfolding shown
+  get_or-shown n d h = ap shows (get_or-front m n d h) ∙ sym (get_or-map shows (front m) n d blank h)
 
-front-packed : (m : List ℕ) (n : ℕ) (c : Cell) → Packed m → set (front m) n (packed c) ≡ map packed (set (shown m) n c)
-front-packed m n c is = ap (λ l. set l n (packed c)) is ∙ sym (map-set packed (shown m) n c)
+  shown-set : (n : ℕ) (x : X) → shown shows (set m n x) ≡ set (shown shows m) n (shows x)
+  unfolding shown
+  shown-set n x = ap (map shows) (front-set m n x) ∙ map-set shows (front m) n x
 
-pub stored-set : (m : List ℕ) (n : ℕ) (c : Cell) → n < length (front m) → set m n (packed c) ≡ stored c m n
-stored-set m n c h = set-over m n (packed c) h
+  shown-cleared : (x : X) → shown shows (cleared x m) ≡ replicate (min 4096 (length m)) (shows x)
+  unfolding shown
+  shown-cleared x = ap (map shows) (front-cleared x m) ∙ map-replicate shows (min 4096 (length m)) x
 
-pub packed-set : (m : List ℕ) (n : ℕ) (c : Cell) → Narrow c → Packed m → n < length (front m) → Packed (set m n (packed c))
-packed-set m n c narrow is h = front-set m n (packed c) ∙ front-packed m n c is ∙ ap (map packed) (sym (shown-set m n c narrow h))
+  -- A cell that is shown is in the memory.
+  pub within_shown : (n : ℕ) → n < length (shown shows m) → n < length m
+  within_shown n h = within-front m n (rw length-shown at h)
 
--- A cleared memory.
-pub shown-cleared : (m : List ℕ) → shown (cleared 0 m) ≡ replicate (min 4096 (length m)) blank
-unfolding shown
-shown-cleared m = ap (map unpacked) (front-cleared 0 m) ∙ map-replicate unpacked (min 4096 (length m)) 0
+  -- What a bank answers that reads its element.
+  pub asked_shown : (n : ℕ) (d : X) (c : Cell) → n < length (shown shows m) → c ≡ shows (get_or m n d) → Ok c ≡ asked (shown shows m) n
+  asked_shown n d c h is = ap Ok (is ∙ get_or-shown n d (rw length-shown at h)) ∙ sym (on_cell-here (shown shows m) n _ h)
 
-pub packed-cleared : (m : List ℕ) → Packed (cleared 0 m)
-packed-cleared m = front-cleared 0 m ∙ sym (map-replicate packed (min 4096 (length m)) blank) ∙ ap (map packed) (sym (shown-cleared m))
+  -- A cell that a word may be put into.
+  pub may_write : (limit n : ℕ) (w : Word) (c : Cell) → Ok c ≡ writable limit (shown shows m) n w → n < length m
+  may_write limit n w c e = within_shown n (writable-ok limit (shown shows m) n w c e).0
 
--- Cells that are read are narrow.
-narrow-map : (bs : List ℕ) (n : ℕ) → Narrow (get_or (map unpacked bs) n blank)
-narrow-map [] n = record { car = refl; cdr = refl }
-narrow-map (b ∷ bs) zero = read-narrow b
-narrow-map (b ∷ bs) (suc n) = narrow-map bs n
+  pub may_fit : (limit n : ℕ) (w : Word) (d : Change) (c : Cell) → w ≡ word_in d → Ok c ≡ writable limit (shown shows m) n w → fits limit (word_in d) ≡ true
+  may_fit limit n w d c is e = rw is at (writable-ok limit (shown shows m) n w c e).1
 
-pub narrow-shown : (m : List ℕ) (n : ℕ) (c : Cell) → c ≡ get_or (shown m) n blank → Narrow c
-unfolding shown
-narrow-shown m n c e = subst Narrow (sym e) (narrow-map (front m) n)
+module _ {X : Type 0} (shows : X → Cell) (stores : Cell → X) (m : List X) (c : Cell) (back : shows (stores c) ≡ c) where
+  packed-set : (n : ℕ) → Packed shows stores m → Packed shows stores (set m n (stores c))
+  packed-set n is =
+      front-set m n (stores c)
+      ∙ ap (λ l. set l n (stores c)) is
+      ∙ sym (map-set stores (shown shows m) n c)
+      ∙ ap (λ d. map stores (set (shown shows m) n d)) (sym back)
+      ∙ ap (map stores) (sym (shown-set shows m n (stores c)))
+
+  packed-cleared : Packed shows stores (cleared (stores c) m)
+  packed-cleared =
+      front-cleared (stores c) m
+      ∙ sym (map-replicate stores (min 4096 (length m)) c)
+      ∙ ap (λ d. map stores (replicate (min 4096 (length m)) d)) (sym back)
+      ∙ ap (map stores) (sym (shown-cleared shows m (stores c)))
+
+-- The front filled with x, and the rest as it was.
+module _ {X : Type 0} (m part : List X) (n : ℕ) (x : X) (least : n ≡ min (length m) 4096) (is : part ≡ replicate (length (take n m)) x) (stores : Cell → X) (stored_as : x ≡ stores blank) where
+  pub filled_made : part ++ drop n m ≡ cleared (stores blank) m
+  filled_made = filled m part n x least is ∙ ap (λ y. cleared y m) stored_as
+
+  pub filled_packed : (shows : X → Cell) → shows x ≡ blank → Packed shows stores (part ++ drop n m)
+  filled_packed shows back = subst (Packed shows stores) (sym filled_made) (packed-cleared shows stores m blank (ap shows (sym stored_as) ∙ back))
+
+pub filled_empty : {X : Type 0} (shows : X → Cell) (m part : List X) (n : ℕ) (x : X) → n ≡ min (length m) 4096 → part ≡ replicate (length (take n m)) x → shows x ≡ blank → shown shows (part ++ drop n m) ≡ replicate (min 4096 (length m)) blank
+filled_empty shows m part n x least is back = ap (shown shows) (filled m part n x least is) ∙ shown-cleared shows m x ∙ ap (replicate (min 4096 (length m))) back
+
+pub ruleset of_clearing = (filled_made, filled_packed, filled_empty)
+
+-- A bank that changes cell n, where it may, to the element x.
+module _ {X : Type 0} (shows : X → Cell) (limit : ℕ) (m : List X) (n : ℕ) (w : Word) (d : Change) (c : Cell) (x y : X) (is : w ≡ word_in d) (may : Ok c ≡ writable limit (shown shows m) n w) (back : shows x ≡ with_change d (shows (get_or m n y))) where
+  here : n < length (front m)
+  here = rw (length-shown shows m) at (writable-ok limit (shown shows m) n w c may).0
+
+  read : with_change d (shows (get_or m n y)) ≡ with_change d (get_or (shown shows m) n blank)
+  read = ap (with_change d) (get_or-shown shows m n y here)
+
+  pub change_after : shown shows (set m n x) ≡ change_put limit (shown shows m) n d
+  change_after =
+      shown-set shows m n x
+      ∙ ap (set (shown shows m) n) (back ∙ read)
+      ∙ sym (put-here (λ _. with_change d) limit (shown shows m) n (word_in d) (may_fit shows m limit n w d c is may))
+
+  pub change_stored : (stores : Cell → X) → x ≡ stores (with_change d (shows (get_or m n y))) → set m n x ≡ stored (stores (with_change d (get_or (shown shows m) n blank))) m n
+  change_stored stores value = ap (set m n) (value ∙ ap stores read) ∙ set-over m n _ here
+
+  pub change_packed : (stores : Cell → X) → x ≡ stores (with_change d (shows (get_or m n y))) → Packed shows stores m → Packed shows stores (set m n x)
+  change_packed stores value was =
+      let new = value ∙ ap stores read in
+      rw (sym new) at (packed-set shows stores m _ (ap shows (sym new) ∙ back ∙ read) n was)
+
+-- A bank that may not.
+module _ (cells : List Cell) (limit n : ℕ) (w : Word) (d : Change) (fault : BankFault) (is : w ≡ word_in d) (refused : Err fault ≡ writable limit cells n w) where
+  pub refused_answer : Err fault ≡ change_taken limit cells n d
+  refused_answer = (put_refused (λ _. with_change d) limit cells n (word_in d) fault (rw is at refused)).0
+
+  pub refused_after : cells ≡ change_put limit cells n d
+  refused_after = (put_refused (λ _. with_change d) limit cells n (word_in d) fault (rw is at refused)).1
+
+-- What the methods of a bank use.
+pub ruleset of_memory = (shown_length, within_shown, asked_shown, may_write, may_fit, change_after, change_stored, change_packed, refused_answer, refused_after)

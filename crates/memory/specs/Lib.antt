@@ -1,4 +1,3 @@
 pub mod Memories
 pub mod Packing
-pub mod Packs
-pub mod Records
+pub mod Elements

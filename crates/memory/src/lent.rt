@@ -1,16 +1,75 @@
-ghost use Rattle.std.specs.Prelude.{◌≡◌, min, length, replicate};
-ghost use Rattle.memory.specs.Memories.{front, cleared};
+ghost use Rattle.std.specs.Prelude.{◌≡◌, min, length, replicate, is_ok, if◌then◌else◌, slice_index_or};
+ghost use Rattle.bank.specs.Words.{blank, with_change};
+ghost use Rattle.bank.specs.Banks.{change_taken, change_put};
+ghost use Rattle.memory.specs.Memories.{front, cleared, shown, stored, Packed};
+ghost use Rattle.memory.specs.Elements.{sound-memory};
+
+use super::element::Element;
+use bank::{Bank, BankFault, Cell, Change};
 
 // The elements of a lent memory that hold cells, at most. Later ones are never touched.
-pub const MOST: usize = 4096;
+const MOST: usize = 4096;
 
-// Puts x into every element that holds a cell.
-pub fn clear<T: Copy>(memory: &mut [T], x: T)
-    ensures after { memory.new ≡ cleared x memory.old }
-    ensures front { front memory.new ≡ replicate (min 4096 (length memory.old)) x }
-{
-    let n = memory.len().min(MOST);
-    for element in memory[0..n].iter_mut() {
-        *element = x;
+// A bank over lent memory, a cell in each element: at most the first 4,096. Each of these stores the cell that it shows, and nothing more.
+#[derive(Drop)]
+pub struct LentBank<'a, E: Element> {
+    memory: &'a mut [E],
+    ghost packed: { Packed E.shows E.stores memory.now },
+}
+
+// Its elements are packed cells.
+pub type PackedBank<'a> = LentBank<'a, u64>;
+
+// Its elements are the cells themselves.
+pub type RecordBank<'a> = LentBank<'a, Cell>;
+
+#[tactic(auto, using(crate::proofs::Writes::of_clearing))]
+impl<'a, E: Element> LentBank<'a, E> {
+    pub fn new(memory: &'a mut [E]) -> LentBank<'a, E>
+        ensures lent { result.memory.ghost_name ≡ memory.entry.ghost_name }
+        ensures made { result.memory.now ≡ cleared (E.stores blank) memory.old }
+        ensures empty { shown E.shows result.memory.now ≡ replicate (min 4096 (length memory.old)) blank }
+    {
+        let n = memory.len().min(MOST);
+        memory[..n].fill(E::blank());
+        LentBank { memory }
+    }
+}
+
+#[tactic(auto, using(crate::proofs::Writes::of_memory))]
+impl<'a, E: Element> Bank for LentBank<'a, E> {
+    ghost limit = { λ _. E.LIMIT };
+
+    ghost cells = { λ s. shown E.shows s.memory.now };
+
+    ghost sound = { λ s. sound-memory E.LIMIT E.shows E.wide s.memory.now };
+
+    fn size(&self) -> u32 {
+        self.memory.len().min(MOST) as u32
+    }
+
+    fn word_limit(&self) -> u32 {
+        E::LIMIT
+    }
+
+    fn cell(&self, n: u32) -> Result<Cell, BankFault> {
+        if n < self.size() {
+            Ok(self.memory[n as usize].cell())
+        } else {
+            Err(BankFault::NoSuchCell(n))
+        }
+    }
+
+    // `answer` and `after` are the trait's own: beside further clauses the check asks for them again.
+    fn set(&mut self, n: u32, change: Change) -> Result<(), BankFault>
+        ensures answer { result ≡ change_taken E.LIMIT (shown E.shows self.old.memory.now) n change }
+        ensures after { shown E.shows self.new.memory.now ≡ change_put E.LIMIT (shown E.shows self.old.memory.now) n change }
+        ensures stored { self.new.memory.now ≡ (if is_ok result then stored (E.stores (with_change change (slice_index_or (shown E.shows self.old.memory.now) n blank))) self.old.memory.now n else self.old.memory.now) }
+        ensures lent { self.new.memory.ghost_name ≡ self.old.memory.ghost_name }
+    {
+        self.writable(n, change.word())?;
+        let element = self.memory[n as usize].changed(change);
+        self.memory[n as usize] = element;
+        Ok(())
     }
 }

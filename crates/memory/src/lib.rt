@@ -1,11 +1,9 @@
 // Banks over lent memory, one cell to an element.
 #![tactic(auto)]
 
+mod element;
 mod lent;
-mod packed;
 mod packing;
-mod record;
 
-pub use packed::PackedBank;
+pub use lent::{PackedBank, RecordBank};
 pub use packing::{LIMIT, pack, unpack};
-pub use record::RecordBank;

@@ -9,6 +9,7 @@ use bank::{BankFault, Cell, Word};
 pub const LIMIT: u32 = 268_435_455;
 
 // The packed cell, or the refusal of its first word that is too wide.
+#[tactic(auto, using(crate::proofs::Fields::of_packing))]
 pub fn pack(cell: Cell) -> Result<u64, BankFault>
     ensures value { result ≡ packing cell }
     ensures back { ReadsBack }
@@ -18,6 +19,7 @@ pub fn pack(cell: Cell) -> Result<u64, BankFault>
     Ok(packed_cell(cell))
 }
 
+// Refuses a cell with a word that is too wide, the car first.
 fn check(cell: Cell) -> Result<(), BankFault>
     ensures { result ≡ taken packed_top cell.car (taken packed_top cell.cdr (Ok tt)) }
 {
@@ -36,6 +38,7 @@ pub fn unpack(bits: u64) -> Cell
     }
 }
 
+// The bits of a cell whose words fit.
 pub(super) fn packed_cell(cell: Cell) -> u64
     requires { Narrow cell }
     ensures { result ≡ packed cell }
@@ -64,6 +67,7 @@ fn unpacked_word(bits: u64) -> Word
     }
 }
 
+// The kind as the number that the format gives it.
 fn kind(word: Word) -> u64
     ensures value { result ≡ kind_of word }
     ensures small { result < 4 }
@@ -76,6 +80,8 @@ fn kind(word: Word) -> u64
     }
 }
 
+// A field of `wide` bits with `low` in it, and `high` above it.
+#[tactic(auto, using(crate::proofs::Fields::of_packing))]
 fn above(high: u64, wide: u32, low: u64) -> u64
     requires narrow { low < 2 ^ wide }
     requires fits { above high wide low < 2 ^ 64 }
@@ -85,6 +91,8 @@ fn above(high: u64, wide: u32, low: u64) -> u64
     (high << wide) | low
 }
 
+// The field of `wide` bits that begins at bit `at`.
+#[tactic(auto, using(crate::proofs::Fields::of_packing))]
 fn field(bits: u64, at: u32, wide: u32) -> u64
     requires start { at < 64 }
     requires shift { wide < 64 }

@@ -1,5 +1,5 @@
 -- The paced rule. Assumes nothing.
-use Rattle.std.specs.Prelude.{◌≡◌, ℕ, ◌+◌, Bool, true, false, cond, ◌||◌, List, [], ◌∷◌, nat_le}
+use Rattle.std.specs.Prelude.{◌≡◌, ℕ, ◌+◌, Bool, true, false, if◌then◌else◌, ◌||◌, List, [], ◌∷◌, nat_le}
 use Rattle.std.proofs.lemmas.Bool.{le-leb, or_left}
 use Rattle.pacing.specs.Rules.{Lawful}
 use Rattle.pacing.specs.declared.paced.PacedRule.{PacedRule}
@@ -17,7 +17,7 @@ fresh floor pace = record { floor = floor; pace = pace; refusals = 0 }
 
 -- the rule after it was asked: a yes begins the tally anew, a no adds one
 abbrev pub next : PacedRule → ℕ → PacedRule
-next r count = record { floor = r.floor; pace = r.pace; refusals = cond (paced_says r count) 0 (r.refusals + 1) }
+next r count = record { floor = r.floor; pace = r.pace; refusals = if paced_says r count then 0 else r.refusals + 1 }
 
 pub paced-law : (r : PacedRule) → Lawful (paced_floor r) (paced_says r)
 paced-law r count low = or_left (nat_le count r.floor) (nat_le r.pace r.refusals) (le-leb count r.floor low)

@@ -1,4 +1,4 @@
-use bank::{Bank, BankFault, Cell, Word};
+use bank::{Bank, BankFault, Cell, Change, Word};
 use layers::{Hold, Join, Window};
 use memory::{PackedBank, RecordBank};
 use std::process::Abort;
@@ -14,7 +14,7 @@ fn packs(rt: HostRuntime) {
     assert_eq!(rt; memory::pack(cell), Ok(1_152_921_504_875_282_433));
     assert_eq!(rt; memory::unpack(1_152_921_504_875_282_433), cell);
     assert_eq!(rt;
-        memory::pack(cell.with_cdr(Word::Atom(268_435_456))),
+        memory::pack(cell.with(Change::Cdr(Word::Atom(268_435_456)))),
         Err(BankFault::WordTooWide(268_435_456))
     );
 }
@@ -24,14 +24,14 @@ fn packed_memory(rt: HostRuntime) -> Result<(), Fail> {
     let mut words = [7u64; 4097];
     let mut bank = PackedBank::new(&mut words);
     assert_eq!(rt; bank.size(), 4096);
-    bank.set_car(4095, Word::Cell(1))?;
-    bank.set_mark(4095, true)?;
+    bank.set(4095, Change::Car(Word::Cell(1)))?;
+    bank.set(4095, Change::Mark(true))?;
     assert_eq!(rt;
-        bank.set_cdr(4096, Word::Nil),
+        bank.set(4096, Change::Cdr(Word::Nil)),
         Err(BankFault::NoSuchCell(4096))
     );
     assert_eq!(rt;
-        bank.set_cdr(0, Word::Atom(268_435_456)),
+        bank.set(0, Change::Cdr(Word::Atom(268_435_456))),
         Err(BankFault::WordTooWide(268_435_456))
     );
     assert_eq!(rt; words[4095], 1_152_921_504_875_282_433);
@@ -45,8 +45,11 @@ fn windows(rt: HostRuntime) -> Result<(), Fail> {
     let mut cells = [Cell::BLANK; 4];
     let mut window = Window::new(RecordBank::new(&mut cells), 2, 3);
     assert_eq!(rt; window.size(), 2);
-    window.set_car(1, Word::Atom(u32::MAX))?;
-    assert_eq!(rt; window.set_mark(2, true), Err(BankFault::NoSuchCell(2)));
+    window.set(1, Change::Car(Word::Atom(u32::MAX)))?;
+    assert_eq!(rt;
+        window.set(2, Change::Mark(true)),
+        Err(BankFault::NoSuchCell(2))
+    );
     let past = Window::new(window.into_below(), 4, 1);
     assert_eq!(rt; past.size(), 0);
     let far = Window::new(past.into_below(), u32::MAX, u32::MAX);
@@ -64,9 +67,12 @@ fn joins(rt: HostRuntime) -> Result<(), Fail> {
     let mut join = Join::new(PackedBank::new(&mut words), RecordBank::new(&mut cells));
     assert_eq!(rt; join.size(), 4096);
     assert_eq!(rt; join.word_limit(), 268_435_455);
-    assert_eq!(rt; join.set_mark(4096, true), Err(BankFault::NoSuchCell(4096)));
+    assert_eq!(rt;
+        join.set(4096, Change::Mark(true)),
+        Err(BankFault::NoSuchCell(4096))
+    );
     let (_, mut second) = join.into_parts();
-    second.set_cdr(0, Word::Reserved)?;
+    second.set(0, Change::Cdr(Word::Reserved))?;
     assert_eq!(rt; second.cell(0)?.cdr, Word::Reserved);
     Ok(())
 }
@@ -76,9 +82,9 @@ fn joins(rt: HostRuntime) -> Result<(), Fail> {
 fn holds(rt: HostRuntime) -> Result<(), Fail> {
     let mut cells = [Cell::BLANK; 20];
     let mut hold = Hold::new(RecordBank::new(&mut cells));
-    hold.set_car(3, Word::Atom(30))?;
-    hold.set_car(19, Word::Atom(190))?;
-    hold.set_mark(19, true)?;
+    hold.set(3, Change::Car(Word::Atom(30)))?;
+    hold.set(19, Change::Car(Word::Atom(190)))?;
+    hold.set(19, Change::Mark(true))?;
     assert_eq!(rt; hold.cell(3)?.car, Word::Atom(30));
     assert_eq!(rt; hold.cell(19)?.car, Word::Atom(190));
     let (below, _) = hold.into_parts();
@@ -91,8 +97,8 @@ fn holds(rt: HostRuntime) -> Result<(), Fail> {
 fn settles_twice(rt: HostRuntime) -> Result<(), Fail> {
     let mut cells = [Cell::BLANK; 20];
     let mut hold = Hold::new(RecordBank::new(&mut cells));
-    hold.set_cdr(7, Word::Cell(8))?;
-    hold.set_mark(18, true)?;
+    hold.set(7, Change::Cdr(Word::Cell(8)))?;
+    hold.set(18, Change::Mark(true))?;
     hold.settle();
     hold.settle();
     assert_eq!(rt; hold.cell(7)?.cdr, Word::Cell(8));
@@ -109,13 +115,13 @@ fn wide_word_below(rt: HostRuntime) -> Result<(), Fail> {
     let mut words = [0u64; 2];
     let mut cells = [Cell::BLANK; 2];
     let mut record = RecordBank::new(&mut cells);
-    record.set_car(1, wide)?;
+    record.set(1, Change::Car(wide))?;
     let mut hold = Hold::new(Join::new(PackedBank::new(&mut words), record));
     assert_eq!(rt;
-        hold.set_cdr(3, wide),
+        hold.set(3, Change::Cdr(wide)),
         Err(BankFault::WordTooWide(300_000_000))
     );
-    hold.set_cdr(3, Word::Cell(0))?;
+    hold.set(3, Change::Cdr(Word::Cell(0)))?;
     assert_eq!(rt; hold.cell(3)?.car, wide);
     hold.settle();
     assert_eq!(rt;
@@ -126,7 +132,7 @@ fn wide_word_below(rt: HostRuntime) -> Result<(), Fail> {
             mark: false,
         }
     );
-    hold.set_car(3, Word::Nil)?;
+    hold.set(3, Change::Car(Word::Nil))?;
     hold.settle();
     assert_eq!(rt; hold.cell(3)?.car, Word::Nil);
     Ok(())
@@ -136,8 +142,8 @@ fn wide_word_below(rt: HostRuntime) -> Result<(), Fail> {
 fn works<B: Bank + Drop>(rt: &impl Abort, mut bank: B, size: u32) -> Result<(), Fail> {
     assert_eq!(rt; bank.size(), size);
     for n in 0..size {
-        bank.set_car(n, Word::Cell(n))?;
-        bank.set_mark(n, true)?;
+        bank.set(n, Change::Car(Word::Cell(n)))?;
+        bank.set(n, Change::Mark(true))?;
     }
     for n in 0..size {
         let cell = bank.cell(n)?;
@@ -145,7 +151,7 @@ fn works<B: Bank + Drop>(rt: &impl Abort, mut bank: B, size: u32) -> Result<(), 
         assert!(rt; cell.mark);
     }
     assert_eq!(rt;
-        bank.set_cdr(size, Word::Nil),
+        bank.set(size, Change::Cdr(Word::Nil)),
         Err(BankFault::NoSuchCell(size))
     );
     assert_eq!(rt; bank.cell(size), Err(BankFault::NoSuchCell(size)));

@@ -4,7 +4,8 @@ use Rattle.std.proofs.lemmas.Fmt.{decimal_digit, decimal_step, decimal_by_steps,
 use Rattle.std.proofs.lemmas.List.{length-append, length_push}
 use Rattle.std.proofs.lemmas.Bool.{cases_lt}
 use Rattle.plan.specs.Parts.{Digit}
-use Rattle.plan.proofs.Lists.{All, all_append}
+use Rattle.std.specs.List.{AllByRecursion as All}
+use Rattle.plan.proofs.Lists.{all_append}
 
 pub digits : (n : ℕ) → n ≤ 99999 → All Digit (decimal n)
 digits n h =

@@ -1,6 +1,6 @@
 pub mod Lists
 pub mod Decimals
-pub mod Places
+pub mod Texts
 pub mod Rows
 pub mod Agreements
 pub mod Tables

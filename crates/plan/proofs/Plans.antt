@@ -1,13 +1,12 @@
 -- A plan, line by line. Assumes nothing.
-use Rattle.std.proofs.Common.{◌≡◌, ℕ, suc, ◌+◌, ◌-◌, ◌<◌, ◌≤◌, Bool, true, false, eqb, List, [], ◌∷◌, ◌++◌, length, drop, Some, None, sym, refl, ap, ◌∙◌, subst, arith}
-use Rattle.std.proofs.lemmas.List.{append_assoc, append-nil, length-append, length-drop, length_push, drop_all}
+use Rattle.std.proofs.Common.{◌≡◌, ℕ, suc, ◌+◌, ◌-◌, ◌<◌, ◌≤◌, Bool, true, false, eqb, List, [], ◌∷◌, ◌++◌, length, Some, None, sym, refl, ap, arith}
+use Rattle.std.proofs.lemmas.List.{append_assoc, append-nil, length-append, length_push}
 use Rattle.std.proofs.lemmas.Bool.{ne_eqb}
 use Rattle.plan.specs.declared.line.Line.{Line}
-use Rattle.plan.specs.declared.fault.PlanFault.{PlanFault}
+use Rattle.plan.specs.declared.fault.PlanFault.TheVariants.{Malformed}
 use Rattle.plan.specs.Lines.{name, numbers, numbers_text, line_text, Stands, Ordered, plan_text, opening}
-use Rattle.plan.specs.Refusals.{told}
-use Rattle.plan.specs.Readings.{Written, Parses}
-use Rattle.plan.specs.Parts.{Stuck, LineAt}
+use Rattle.plan.specs.Readings.{Written, Parses, Stuck}
+use Rattle.plan.specs.Parts.{LineAt}
 use Rattle.plan.proofs.Rows.{marks}
 
 pub opening-test : (ls : List Line) → opening ls ≡ eqb (length ls) 0
@@ -30,58 +29,52 @@ next-opening (l ∷ ls) = refl
 pub line-some : (l : Line) → 0 < length (line_text l)
 line-some l = omega (arith, length-append (name l) (numbers_text (numbers l)), marks (numbers l))
 
--- these lines stand before a place
-pub record Sofar (bs : List ℕ) (ls : List Line) (at : ℕ) : Type 0 where
-  pub ordered : Ordered true ls
-  pub again : bs ≡ plan_text ls ++ drop at bs
-  pub within : at ≤ length bs
-  pub few : length ls ≤ at
+-- a line takes some of what is left
+pub line-shorter : (first : Bool) (text : List ℕ) (l : Line) (rest : List ℕ) → LineAt first text l rest → length rest < length text
+line-shorter first text l rest h = omega (arith, ap (λ (t : List ℕ). length t) h.cut, length-append (line_text l) rest, line-some l)
 
-pub sofar-none : (bs : List ℕ) → Sofar bs [] 0
-sofar-none bs = record { ordered = tt; again = refl; within = omega arith; few = omega arith }
+-- these lines stand before what is left
+pub record Sofar (bs : List ℕ) (ls : List Line) (left : List ℕ) : Type 0 where
+  pub ordered : Ordered true ls
+  pub again : bs ≡ plan_text ls ++ left
+  pub few : length ls + length left ≤ length bs
+
+pub sofar-none : (bs : List ℕ) → Sofar bs [] bs
+sofar-none bs = record { ordered = tt; again = refl; few = omega arith }
 
 ordered-more : (first : Bool) (ls : List Line) (l : Line) → Ordered first ls → Stands (next first ls) l → Ordered first (ls ++ (l ∷ []))
 ordered-more first [] l o s = (s, tt)
-ordered-more first (x ∷ ls) l o s = (o.0, ordered-more false ls l o.1 (subst (λ (b : Bool). Stands b l) (sym (next-later ls)) s))
+ordered-more first (x ∷ ls) l o s = (o.0, ordered-more false ls l o.1 (rw (next-later ls) s))
 
 text-more : (ls : List Line) (l : Line) → plan_text (ls ++ (l ∷ [])) ≡ plan_text ls ++ line_text l
 text-more [] l = append-nil (line_text l)
-text-more (x ∷ ls) l = ap (λ (t : List ℕ). line_text x ++ t) (text-more ls l) ∙ sym (append_assoc (line_text x) (plan_text ls) (line_text l))
+text-more (x ∷ ls) l = cc (text-more ls l, append_assoc (line_text x) (plan_text ls) (line_text l))
 
-module _ (bs : List ℕ) (ls : List Line) (at : ℕ) (s : Sofar bs ls at) where
-  pub sofar-more : (l : Line) (to : ℕ) → LineAt (opening ls) bs at l to → Sofar bs (ls ++ (l ∷ [])) to
-  sofar-more l to h =
+module _ (bs : List ℕ) (ls : List Line) (left : List ℕ) (s : Sofar bs ls left) where
+  pub sofar-more : (l : Line) (rest : List ℕ) → LineAt (opening ls) left l rest → Sofar bs (ls ++ (l ∷ [])) rest
+  sofar-more l rest h =
       record {
-        ordered = ordered-more true ls l s.ordered (subst (λ (b : Bool). Stands b l) (sym (next-opening ls)) h.stands);
-        again =
-            s.again
-            ∙ ap (λ (t : List ℕ). plan_text ls ++ t) h.taken.cut
-            ∙ sym (append_assoc (plan_text ls) (line_text l) (drop to bs))
-            ∙ ap (λ (t : List ℕ). t ++ drop to bs) (sym (text-more ls l));
-        within = h.taken.within;
-        few = omega (arith, s.few, h.taken.far, line-some l, length_push ls l);
+        ordered = ordered-more true ls l s.ordered (rw (next-opening ls) h.stands);
+        again = cc (s.again, h.cut, append_assoc (plan_text ls) (line_text l) rest, text-more ls l);
+        few = omega (arith, s.few, line-shorter (opening ls) left l rest h, length_push ls l);
       }
 
-  pub parses-end : length bs ≤ at → opening ls ≡ false → Parses bs ls None
-  parses-end h o = record { left = drop at bs; ordered = s.ordered; again = s.again; ends = (drop_all at bs h, o) }
+  pub parses-end : left ≡ [] → opening ls ≡ false → Parses bs ls None
+  parses-end e o = record { left = left; ordered = s.ordered; again = s.again; ends = (e, o) }
 
-  pub parses-fault : (place : ℕ) (f : PlanFault) → Stuck (Written (opening ls)) bs at place → (opening ls ≡ false → at < length bs) → told f ≡ (8, (length ls + 1) ∷ (place - at + 1) ∷ []) → Parses bs ls (Some f)
-  parses-fault place f k inside t =
+  pub parses-fault : (rest : List ℕ) → Stuck (Written (opening ls)) left rest → (opening ls ≡ false → 0 < length left) → Parses bs ls (Some (Malformed (length ls + 1) (length left - length rest + 1)))
+  parses-fault rest k inside =
       record {
-        left = drop at bs;
+        left = left;
         ordered = s.ordered;
         again = s.again;
         ends = (
-          place - at + 1,
+          refl,
           record {
-            front = k.front;
-            rest = drop place bs;
-            cut = k.taken.cut;
-            place = omega (arith, k.taken.far);
-            begins = k.begins;
-            halts = k.halts;
-            inside = λ o. omega (arith, inside o, length-drop at bs);
+            rest = rest;
+            stuck = k;
+            place = omega (arith, ap (λ (t : List ℕ). length t) k.cut, length-append k.front rest);
+            inside = inside;
           },
-          t,
         );
       }

@@ -1,18 +1,20 @@
 -- A text has one reading. Assumes nothing.
-use Rattle.std.proofs.Common.{◌≡◌, ℕ, ◌+◌, Bool, true, false, List, [], ◌∷◌, ◌++◌, length, get_or, Some, None, decimal, Option, sym, refl, ap, ◌∙◌, subst, inl, inr, arith}
+use Rattle.std.proofs.Common.{◌≡◌, ℕ, ◌+◌, Bool, true, false, List, [], ◌∷◌, ◌++◌, length, Some, None, decimal, Option, sym, refl, ap, ◌∙◌, subst, inl, inr, arith}
 use Rattle.std.proofs.lemmas.Fmt.{decimal_injective}
 use Rattle.std.proofs.lemmas.List.{append_assoc, append-nil, length-append}
 use Rattle.std.proofs.lemmas.Bool.{cases_lt}
 use Rattle.plan.specs.declared.line.Line.{Line}
+use Rattle.plan.specs.declared.verb.Verb.{Verb}
 use Rattle.plan.specs.declared.fault.PlanFault.{PlanFault}
+use Rattle.plan.specs.declared.fault.PlanFault.TheVariants.{TooLong, Malformed}
 use Rattle.plan.specs.Lines.{name, numbers, numbers_text, line_text, Small, Stands, Ordered, plan_text, opening}
-use Rattle.plan.specs.Refusals.{told}
-use Rattle.plan.specs.Readings.{Written, Begins, Halts, Fails, Ends, Parses, TooLong, Reads, OneReading, Whole}
+use Rattle.plan.specs.Readings.{Written, Begins, Halts, Fails, Ends, Parses, Reads, OneReading, Whole}
 use Rattle.plan.specs.Parts.{Digit}
 use Rattle.plan.proofs.Lists.{Parts, heads, tails, tokens, fronts}
 use Rattle.plan.proofs.Decimals.{digits}
 use Rattle.plan.proofs.Rows.{parted}
-use Rattle.plan.proofs.Tables.{Inner, inner_name, again, rebuilt}
+use Rattle.plan.specs.Verbs.{verb_of}
+use Rattle.plan.proofs.Tables.{Inner, inner_name, known, same_call, rebuilt}
 use Rattle.plan.proofs.Words.{inner-parts}
 use Rattle.plan.proofs.Plans.{line-some, next, next-later, next-opening}
 
@@ -21,20 +23,20 @@ parts_then P [] u h = absurd h
 parts_then P (s ∷ a) u h = h
 
 same_numbers : (ns ms x y : List ℕ) → Small ns → Small ms → numbers_text ns ++ x ≡ numbers_text ms ++ y → (ns ≡ ms) × (x ≡ y)
-same_numbers [] [] x y sn sm e = (refl, tails 10 10 x y e)
-same_numbers [] (m ∷ ms) x y sn sm e = absurd (let z = heads 10 32 x ((decimal m ++ numbers_text ms) ++ y) e in let bad : ⊥ = omega arith in bad)
-same_numbers (n ∷ ns) [] x y sn sm e = absurd (let z = heads 32 10 ((decimal n ++ numbers_text ns) ++ x) y e in let bad : ⊥ = omega arith in bad)
+same_numbers [] [] x y sn sm e = (refl, tails e)
+same_numbers [] (m ∷ ms) x y sn sm e = absurd (let z = heads e in omega arith)
+same_numbers (n ∷ ns) [] x y sn sm e = absurd (let z = heads e in omega arith)
 same_numbers (n ∷ ns) (m ∷ ms) x y sn sm e =
     let p : decimal n ++ (numbers_text ns ++ x) ≡ decimal m ++ (numbers_text ms ++ y) =
     sym (append_assoc (decimal n) (numbers_text ns) x)
-    ∙ tails 32 32 ((decimal n ++ numbers_text ns) ++ x) ((decimal m ++ numbers_text ms) ++ y) e
+    ∙ tails e
     ∙ append_assoc (decimal m) (numbers_text ms) y in
     let q = tokens Digit (decimal n) (decimal m) (numbers_text ns ++ x) (numbers_text ms ++ y) (digits n sn.0) (digits m sm.0) (parts_then Digit (numbers_text ns) x (parted ns)) (parts_then Digit (numbers_text ms) y (parted ms)) p in
     let a = sn.0 in
     let b = sm.0 in
     let nm = decimal_injective n m (omega arith) (omega arith) q.0 in
     let r = same_numbers ns ms x y sn.1 sm.1 q.1 in
-    (ap (λ (k : ℕ). k ∷ ns) nm ∙ ap (λ (l : List ℕ). m ∷ l) r.0, r.1)
+    (cc (nm, r.0), r.1)
 
 -- no line is the beginning of another
 same_line : (l m : Line) (x y : List ℕ) → Small (numbers l) → Small (numbers m) → line_text l ++ x ≡ line_text m ++ y → (l ≡ m) × (x ≡ y)
@@ -43,7 +45,7 @@ same_line l m x y sl sm e =
     sym (append_assoc (name l) (numbers_text (numbers l)) x) ∙ e ∙ append_assoc (name m) (numbers_text (numbers m)) y in
     let q = tokens Inner (name l) (name m) (numbers_text (numbers l) ++ x) (numbers_text (numbers m) ++ y) (inner_name l) (inner_name m) (parts_then Inner (numbers_text (numbers l)) x (inner-parts (numbers l))) (parts_then Inner (numbers_text (numbers m)) y (inner-parts (numbers m))) p in
     let r = same_numbers (numbers l) (numbers m) x y sl sm q.1 in (
-      again l ∙ ap (λ (k : List ℕ). rebuilt k (numbers l)) q.0 ∙ ap (λ (k : List ℕ). rebuilt (name m) k) r.0 ∙ sym (again m),
+      (known l).again ∙ ap (λ (v : Verb). rebuilt v (numbers l)) (same_call l m q.0) ∙ ap (λ (ns : List ℕ). rebuilt (verb_of m) ns) r.0 ∙ sym (known m).again,
       r.1,
     )
 
@@ -67,14 +69,15 @@ no_whole first l z front st e (more, some, (m, sm, w)) =
 
 no_line : (ls : List Line) (left : List ℕ) (f : Option PlanFault) → Ends ls left f → NoLine (opening ls) left
 no_line ls left None (e, o) l u st w = omega (arith, line-some l, length-append (line_text l) u, ap (λ (k : List ℕ). length k) (sym e ∙ w))
-no_line ls left (Some f) (column, F, t) l u st w =
-    elim (fronts F.front F.rest (line_text l) u (sym F.cut ∙ w)) [
+no_line ls left (Some TooLong) e l u st w = absurd e
+no_line ls left (Some (Malformed line column)) (_, F) l u st w =
+    elim (fronts F.stuck.front F.rest (line_text l) u (sym F.stuck.cut ∙ w)) [
       | inl x ↦ by x.0 x.1 x.2
-      | inr x ↦ no_whole (opening ls) l (x.0 ∷ x.1) F.front st x.2 F.begins
+      | inr x ↦ no_whole (opening ls) l (x.0 ∷ x.1) F.stuck.front st x.2 F.stuck.begins
     ] where
-      by : (m : List ℕ) → line_text l ≡ F.front ++ m → F.rest ≡ m ++ u → ⊥
-      by [] g r = no_whole (opening ls) l [] F.front st (sym (append-nil F.front) ∙ sym g ∙ sym (append-nil (line_text l))) F.begins
-      by (b ∷ m) g r = beyond (Written (opening ls)) F.front F.rest b (m ++ u) m F.halts r (l, st, sym g)
+      by : (m : List ℕ) → line_text l ≡ F.stuck.front ++ m → F.rest ≡ m ++ u → ⊥
+      by [] g r = no_whole (opening ls) l [] F.stuck.front st (sym (append-nil F.stuck.front) ∙ sym g ∙ sym (append-nil (line_text l))) F.stuck.begins
+      by (b ∷ m) g r = beyond (Written (opening ls)) F.stuck.front F.rest b (m ++ u) m F.stuck.halts r (l, st, sym g)
 
 same_lines : (first : Bool) (ls ms : List Line) (x y : List ℕ) → Ordered first ls → Ordered first ms → NoLine (next first ls) x → NoLine (next first ms) y → plan_text ls ++ x ≡ plan_text ms ++ y → (ls ≡ ms) × (x ≡ y)
 same_lines first [] [] x y ol om nx ny e = (refl, e)
@@ -83,33 +86,29 @@ same_lines first (l ∷ ls) [] x y ol om nx ny e = absurd (ny l (plan_text ls ++
 same_lines first (l ∷ ls) (m ∷ ms) x y ol om nx ny e =
     let q = same_line l m (plan_text ls ++ x) (plan_text ms ++ y) ol.0.small om.0.small (sym (append_assoc (line_text l) (plan_text ls) x) ∙ e ∙ append_assoc (line_text m) (plan_text ms) y) in
     let r = same_lines false ls ms x y ol.1 om.1 (subst (λ (b : Bool). NoLine b x) (sym (next-later ls)) nx) (subst (λ (b : Bool). NoLine b y) (sym (next-later ms)) ny) q.1 in
-    (ap (λ (k : Line). k ∷ ls) q.0 ∙ ap (λ (k : List Line). m ∷ k) r.0, r.1)
+    (cc (q.0, r.0), r.1)
 
 -- a text that holds no line fails at one column
 same-column : (first : Bool) (left : List ℕ) (c d : ℕ) → Fails first left c → Fails first left d → c ≡ d
 same-column first left c d F G =
-    elim (fronts F.front F.rest G.front G.rest (sym F.cut ∙ G.cut)) [
+    elim (fronts F.stuck.front F.rest G.stuck.front G.rest (sym F.stuck.cut ∙ G.stuck.cut)) [
       | inl x ↦ by x.0 x.1 x.2
-      | inr x ↦ absurd (begins-beyond (Written first) G.front F.front G.rest x.0 (x.1 ++ F.rest) x.1 G.halts x.3 x.2 F.begins)
+      | inr x ↦ absurd (begins-beyond (Written first) G.stuck.front F.stuck.front G.rest x.0 (x.1 ++ F.rest) x.1 G.stuck.halts x.3 x.2 F.stuck.begins)
     ] where
-      by : (m : List ℕ) → G.front ≡ F.front ++ m → F.rest ≡ m ++ G.rest → c ≡ d
-      by [] g r = F.place ∙ ap (λ (k : List ℕ). length k + 1) (sym (g ∙ append-nil F.front)) ∙ sym G.place
-      by (b ∷ m) g r = absurd (begins-beyond (Written first) F.front G.front F.rest b (m ++ G.rest) m F.halts r g G.begins)
-
-same-told : (f g : PlanFault) → told f ≡ told g → f ≡ g
-same-told f g e = ap (λ (t : ℕ × List ℕ). record { line = get_or t.1 0 0; column = get_or t.1 1 0 }) e
+      by : (m : List ℕ) → G.stuck.front ≡ F.stuck.front ++ m → F.rest ≡ m ++ G.rest → c ≡ d
+      by [] g r = F.place ∙ ap (λ (k : List ℕ). length k + 1) (sym (g ∙ append-nil F.stuck.front)) ∙ sym G.place
+      by (b ∷ m) g r = absurd (begins-beyond (Written first) F.stuck.front G.stuck.front F.rest b (m ++ G.rest) m F.stuck.halts r g G.stuck.begins)
 
 same_end : (ls : List Line) (left : List ℕ) (f g : Option PlanFault) → Ends ls left f → Ends ls left g → f ≡ g
 same_end ls left None None a b = refl
-same_end ls left None (Some g) (e, o) (d, G, u) = absurd (let h = G.inside o in let bad : ⊥ = omega (arith, h, ap (λ (k : List ℕ). length k) e) in bad)
-same_end ls left (Some f) None (c, F, t) (e, o) = absurd (let h = F.inside o in let bad : ⊥ = omega (arith, h, ap (λ (k : List ℕ). length k) e) in bad)
-same_end ls left (Some f) (Some g) (c, F, t) (d, G, u) =
-    ap (λ (k : PlanFault). Some k) (same-told f g (t ∙ ap (λ (k : ℕ). (8, (length ls + 1) ∷ k ∷ [])) (same-column (opening ls) left c d F G) ∙ sym u))
-
-same-long : (f g : Option PlanFault) → TooLong f → TooLong g → f ≡ g
-same-long None g a b = absurd a
-same-long (Some f) None a b = absurd b
-same-long (Some f) (Some g) a b = ap (λ (k : PlanFault). Some k) (same-told f g (a ∙ sym b))
+same_end ls left None (Some TooLong) a b = absurd b
+same_end ls left None (Some (Malformed line column)) (e, o) (_, G) = absurd (omega (arith, G.inside o, ap (λ (k : List ℕ). length k) e))
+same_end ls left (Some TooLong) g a b = absurd a
+same_end ls left (Some (Malformed line column)) None (_, F) (e, o) = absurd (omega (arith, F.inside o, ap (λ (k : List ℕ). length k) e))
+same_end ls left (Some (Malformed line column)) (Some TooLong) a b = absurd b
+same_end ls left (Some (Malformed l c)) (Some (Malformed m d)) (p, F) (q, G) =
+    let e = same-column (opening ls) left c d F G in
+    cc
 
 same-parse : (text : List ℕ) (ls ms : List Line) (f g : Option PlanFault) → Parses text ls f → Parses text ms g → (ls ≡ ms) × (f ≡ g)
 same-parse text ls ms f g p q =
@@ -121,15 +120,15 @@ same-parse text ls ms f g p q =
 pub one-reading : OneReading
 one-reading text ls ms f g a b =
     elim (cases_lt 32768 (length text)) [
-      | inl l ↦ ((a.long l).0 ∙ sym (b.long l).0, same-long f g (a.long l).1 (b.long l).1)
+      | inl l ↦ ((a.long l).0 ∙ sym (b.long l).0, (a.long l).1 ∙ sym (b.long l).1)
       | inr h ↦ same-parse text ls ms f g (a.short h) (b.short h)
     ]
 
 -- a text that is a plan has that plan as its reading
-pub whole-read : (text : List ℕ) (ls : List Line) (f : Option PlanFault) → Reads text ls f → Whole text ls f
-whole-read text ls f r ms ordered some e fits =
+pub whole-read : {text : List ℕ} {ls : List Line} {f : Option PlanFault} → Reads text ls f → Whole text ls f
+whole-read {text} {ls} {f} r ms ordered some e fits =
     one-reading text ls ms f None r
     (record {
       short = λ h. record { left = []; ordered = ordered; again = e ∙ sym (append-nil (plan_text ms)); ends = (refl, some) };
-      long = λ h. absurd (let bad : ⊥ = omega arith in bad);
+      long = λ h. absurd (omega arith);
     })

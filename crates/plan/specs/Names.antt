@@ -1,22 +1,22 @@
--- Which of several names stands at a place. Assumes nothing.
-use Rattle.std.specs.Prelude.{◌≡◌, ℕ, suc, ◌+◌, ◌≤◌, max, cond, List, [], ◌∷◌, length, drop, Ok, Err, Result, MatchResult, ◌==◌}
+-- Which of several names stands at the front of a text. Assumes nothing.
+use Rattle.std.specs.Prelude.{ℕ, max, Bool, true, false, List, [], ◌∷◌, length, ◌==◌, Option, fold}
+use Rattle.std.specs.List.{find, starts_with, take_while, zip}
 use Rattle.plan.specs.declared.verb.Verb.{Verb}
 use Rattle.plan.specs.Verbs.{word}
 
+-- the calls that a plan's first line may have, and those that the others may have
+abbrev pub table : Bool → List Verb
+table true = Verb.Store ∷ []
+table false = Verb.Load ∷ Verb.Clear ∷ Verb.Copy ∷ Verb.Cons ∷ Verb.Car ∷ Verb.Cdr ∷ Verb.Rplaca ∷ Verb.Rplacd ∷ Verb.Look ∷ Verb.Same ∷ []
+
 -- how many bytes two texts have in common from their start on
 abbrev pub agree : List ℕ → List ℕ → ℕ
-agree [] t = 0
-agree (x ∷ w) [] = 0
-agree (x ∷ w) (y ∷ t) = cond (x == y) (suc (agree w t)) 0
+agree w t = length (take_while (λ p. p.0 == p.1) (zip w t))
 
--- the first of these whose word begins the text, or the most that a word has in common with it
-abbrev pub found : ℕ → List Verb → List ℕ → Result Verb ℕ
-found best [] t = Err best
-found best (v ∷ vs) t = cond (agree (word v) t == length (word v)) (Ok v) (found (max best (agree (word v) t)) vs t)
+-- the first of these calls with whose word the text begins
+abbrev pub found : List Verb → List ℕ → Option Verb
+found verbs text = find (λ v. starts_with ◌==◌ text (word v)) verbs
 
--- what is found at a place, and the place after it
-abbrev pub Finds : List Verb → List ℕ → ℕ → Result (Verb × ℕ) ℕ → Type 0
-Finds verbs bs from r =
-    MatchResult r
-    (λ p. (found 0 verbs (drop from bs) ≡ Ok p.0) × (p.1 ≡ from + length (word p.0)) × (p.1 ≤ length bs))
-    (λ at. (n : ℕ) × (found 0 verbs (drop from bs) ≡ Err n) × (at ≡ from + n) × (at ≤ length bs))
+-- the most bytes that the text has in common with the word of one of these
+abbrev pub closest : List Verb → List ℕ → ℕ
+closest verbs text = fold (λ n v. max n (agree (word v) text)) 0 verbs

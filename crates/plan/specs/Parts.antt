@@ -1,23 +1,16 @@
--- What the reader's parts find at a place of the text. Assumes nothing.
-use Rattle.std.specs.Prelude.{◌≡◌, ℕ, zero, suc, ◌+◌, ◌≤◌, Bool, List, [], ◌∷◌, ◌++◌, length, take, drop, decimal}
+-- What the reader's parts find at the front of a text, and what they leave of it. Assumes nothing.
+use Rattle.std.specs.Prelude.{◌≡◌, ℕ, zero, suc, ◌≤◌, Bool, List, [], ◌∷◌, ◌++◌, length, decimal, Result, MatchResult}
 use Rattle.plan.specs.declared.line.Line.{Line}
 use Rattle.plan.specs.declared.verb.Verb.{Verb}
-use Rattle.plan.specs.Lines.{line_text, numbers_text, Small, Stands}
-use Rattle.plan.specs.Verbs.{word, opens}
-use Rattle.plan.specs.Readings.{Begins, Halts}
+use Rattle.plan.specs.declared.scanner.Scanner.{Scanner}
+use Rattle.plan.specs.declared.scanner.Mismatch.{Mismatch}
+use Rattle.plan.specs.Lines.{line_text, numbers, numbers_text, Small, Stands}
+use Rattle.plan.specs.Verbs.{word, opens, verb_of}
+use Rattle.plan.specs.Readings.{Stuck}
 
--- these bytes stand from one place up to another
-pub record Taken (bs : List ℕ) (from at : ℕ) (front : List ℕ) : Type 0 where
-  pub cut : drop from bs ≡ front ++ drop at bs
-  pub far : at ≡ from + length front
-  pub within : at ≤ length bs
-
--- some of these texts begins at a place and goes up to a second place, where none goes on
-pub record Stuck (L : List ℕ → Type 0) (bs : List ℕ) (from at : ℕ) : Type 0 where
-  pub front : List ℕ
-  pub taken : Taken bs from at front
-  pub begins : Begins L front
-  pub halts : Halts L front (drop at bs)
+-- what a scanner reads of these texts: a value, by what was left before it and after it; or where they go wrong
+abbrev pub Scans : {A : Type 0} → (List ℕ → Type 0) → (List ℕ → A → List ℕ → Type 0) → Scanner → Scanner → Result A Mismatch → Type 0
+Scans L P old new r = MatchResult r (λ x. P old.rest.now x new.rest.now) (λ _. Stuck L old.rest.now new.rest.now)
 
 -- numbers up to the line's end, the space before the first of them already read
 abbrev pub after : List ℕ → List ℕ
@@ -41,22 +34,28 @@ NoDigit [] = Unit {0}
 NoDigit (b ∷ t) = Digit b → ⊥
 
 -- a number and the byte that ends it
-pub record NumberAt (bs : List ℕ) (from left n next : ℕ) : Type 0 where
+pub record NumberAt (left : ℕ) (text : List ℕ) (n : ℕ) (rest : List ℕ) : Type 0 where
   pub small : n ≤ 99999
-  pub taken : Taken bs from next (decimal n ++ (mark left ∷ []))
+  pub cut : text ≡ decimal n ++ (mark left ∷ rest)
 
--- the first so many of these are the numbers up to the line's end
-pub record NumbersAt (bs : List ℕ) (from count : ℕ) (ns : List ℕ) (next : ℕ) : Type 0 where
-  pub four : length ns ≡ 4
-  pub small : Small (take count ns)
-  pub taken : Taken bs from next (after (take count ns))
+-- this many numbers up to the line's end
+pub record NumbersAt (count : ℕ) (text ns rest : List ℕ) : Type 0 where
+  pub counted : length ns ≡ count
+  pub small : Small ns
+  pub cut : text ≡ after ns ++ rest
 
 -- a name that may stand there, and its space
-pub record NameAt (first : Bool) (bs : List ℕ) (from : ℕ) (v : Verb) (next : ℕ) : Type 0 where
+pub record NameAt (first : Bool) (text : List ℕ) (v : Verb) (rest : List ℕ) : Type 0 where
   pub place : opens v ≡ first
-  pub taken : Taken bs from next (word v)
+  pub cut : text ≡ word v ++ rest
+
+-- the numbers of a call's line
+pub record CallAt (v : Verb) (text : List ℕ) (l : Line) (rest : List ℕ) : Type 0 where
+  pub call : verb_of l ≡ v
+  pub small : Small (numbers l)
+  pub cut : text ≡ after (numbers l) ++ rest
 
 -- a line that may stand there
-pub record LineAt (first : Bool) (bs : List ℕ) (from : ℕ) (l : Line) (next : ℕ) : Type 0 where
+pub record LineAt (first : Bool) (text : List ℕ) (l : Line) (rest : List ℕ) : Type 0 where
   pub stands : Stands first l
-  pub taken : Taken bs from next (line_text l)
+  pub cut : text ≡ line_text l ++ rest

@@ -1,27 +1,41 @@
 // Why a plan was not read to its end.
-ghost use Rattle.std.specs.Prelude.{◌≡◌};
-ghost use Rattle.plan.specs.Refusals.{told};
+ghost use Rattle.std.specs.Prelude.{◌≡◌, Some};
+ghost use Rattle.plan.specs.Refusals.{told, fault_text};
 
-// The place of the first byte with which no well-formed line goes on, both numbers from 1; 0 and 0 for a plan that is
-// too long.
+use std::fmt;
+
 #[derive(Clone, Copy, PartialEq, Eq, Debug)]
-pub struct PlanFault {
-    pub line: u32,
-    pub column: u32,
+pub enum PlanFault {
+    // The plan has more bytes than the limit.
+    TooLong,
+    // The place of the first byte with which no well-formed line goes on, both numbers from 1.
+    Malformed { line: u32, column: u32 },
 }
 
 impl PlanFault {
-    // The number of the refusal.
+    // The number of the refusal. No trait's: no code asks a fault of any type for its number.
     pub fn number(&self) -> u8
         ensures { result ≡ (told self.now).0 }
     {
         8
     }
 
-    // What the refusal returns.
+    // What the refusal returns: line and column, and two zeros where there is no place.
     pub fn values(&self) -> [u32; 2]
         ensures { result ≡ (told self.now).1 }
     {
-        [self.line, self.column]
+        match *self {
+            PlanFault::TooLong => [0, 0],
+            PlanFault::Malformed { line, column } => [line, column],
+        }
+    }
+}
+
+impl fmt::Display for PlanFault {
+    ghost output = { λ f. Some (fault_text f) };
+
+    fn fmt<W: fmt::Write>(&self, f: &mut fmt::Formatter<W>) -> fmt::Result {
+        let [line, column] = self.values();
+        write!(f, "fault {line} {column}")
     }
 }

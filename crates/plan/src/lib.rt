@@ -6,6 +6,7 @@ mod field;
 pub mod line;
 mod name;
 pub mod reading;
+mod scanner;
 mod verb;
 
 pub use fault::PlanFault;

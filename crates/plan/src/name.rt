@@ -1,9 +1,11 @@
 // The name that a line begins with.
-ghost use Rattle.std.specs.Prelude.{◌≡◌, ◌+◌, ◌<◌, ◌≤◌, length, drop, MatchResult};
-ghost use Rattle.plan.specs.Names.{agree, Finds};
+ghost use Rattle.std.specs.Prelude.{◌≡◌, ◌≤◌, length, IfSome};
+ghost use Rattle.plan.specs.Names.{table, agree, found, closest};
+ghost use Rattle.plan.specs.Verbs.{word};
 ghost use Rattle.plan.specs.Readings.{Written};
-ghost use Rattle.plan.specs.Parts.{Stuck, NameAt};
+ghost use Rattle.plan.specs.Parts.{NameAt, Scans};
 
+use crate::scanner::{Mismatch, Scanner};
 use crate::verb::Verb;
 
 const FIRST: [Verb; 1] = [Verb::Store];
@@ -21,44 +23,52 @@ const LATER: [Verb; 10] = [
     Verb::Same,
 ];
 
-// How many bytes of a word stand at a place.
-fn agreement(bytes: &[u8], from: usize, word: &[u8]) -> usize
-    requires { from ≤ length bytes.now }
-    ensures value { result ≡ agree word.now (drop from bytes.now) }
-    ensures fits { from + result ≤ length bytes.now }
+// The verbs of a plan's first line, or of a later one.
+fn verbs(first: bool) -> &'static [Verb]
+    ensures { result.now ≡ table first }
 {
-    let mut n = 0;
-    while n < word.len() && n < bytes.len() - from && word[n] == bytes[from + n] {
-        n += 1;
-    }
-    n
+    if first { &FIRST } else { &LATER }
 }
 
-// The verb of these that stands at a place with its space, and the place after it; or the last place to which one goes.
-fn longest(bytes: &[u8], from: usize, verbs: &[Verb]) -> Result<(Verb, usize), usize>
-    requires { from ≤ length bytes.now }
-    ensures { Finds verbs.now bytes.now from result }
+// How many bytes a word and a text have in common from their start on.
+fn agreement(word: &[u8], text: &[u8]) -> usize
+    ensures { result ≡ agree word.now text.now }
 {
-    let mut best = 0;
-    for verb in verbs {
-        let word = verb.word();
-        let n = agreement(bytes, from, word);
-        if n == word.len() {
-            return Ok((*verb, from + n));
-        }
-        best = best.max(n);
-    }
-    Err(from + best)
+    word.iter().zip(text).take_while(|(a, b)| a == b).count()
 }
 
-// The name at a place with its space, and the place after it; or the place where no name goes on.
-pub(super) fn name(bytes: &[u8], from: usize, first: bool) -> Result<(Verb, usize), usize>
-    requires { from ≤ length bytes.now }
-    ensures { MatchResult result (λ p. NameAt first bytes.now from p.0 p.1) (λ at. Stuck (Written first) bytes.now from at) }
+// The verb of these with whose word the text begins.
+fn verb_at(verbs: &[Verb], text: &[u8]) -> Option<Verb>
+    ensures value { result ≡ found verbs.now text.now }
+    ensures within { IfSome result (λ v. length (word v) ≤ length text.now) }
 {
-    if first {
-        longest(bytes, from, &FIRST)
-    } else {
-        longest(bytes, from, &LATER)
+    verbs.iter().copied().find(|v| text.starts_with(v.word()))
+}
+
+// The most bytes that the text has in common with the word of one of these verbs.
+fn closest(verbs: &[Verb], text: &[u8]) -> usize
+    ensures value { result ≡ closest verbs.now text.now }
+    ensures within { result ≤ length text.now }
+{
+    verbs
+        .iter()
+        .map(|v| agreement(v.word(), text))
+        .max()
+        .unwrap_or(0)
+}
+
+impl Scanner<'_> {
+    // The name of a call and the space after it.
+    pub fn verb(&mut self, first: bool) -> Result<Verb, Mismatch>
+        ensures { Scans (Written first) (NameAt first) self.old self.new result }
+    {
+        let verbs = verbs(first);
+        let Some(verb) = verb_at(verbs, self.rest) else {
+            // The last place to which one of them goes along with the text.
+            self.rest = &self.rest[closest(verbs, self.rest)..];
+            return Err(Mismatch);
+        };
+        self.rest = &self.rest[verb.word().len()..];
+        Ok(verb)
     }
 }

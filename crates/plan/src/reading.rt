@@ -1,41 +1,37 @@
 // A plan, read.
-ghost use Rattle.std.specs.Prelude.{◌≡◌, ◌+◌, ◌<◌, ◌≤◌, [], ◌∷◌, length, IfOk, MatchResult, nat_lt};
+ghost use Rattle.std.specs.Prelude.{◌≡◌, ◌+◌, ◌<◌, ◌≤◌, length, IfOk, nat_lt};
+ghost use Rattle.plan.specs.declared.fault.PlanFault.{PlanFault};
 ghost use Rattle.plan.specs.Readings.{Written, Parses, Reads, Whole, OneReading};
-ghost use Rattle.plan.specs.Parts.{Stuck, LineAt};
-ghost use Rattle.plan.specs.Refusals.{told};
+ghost use Rattle.plan.specs.Parts.{LineAt, Scans};
 
 use crate::fault::PlanFault;
-use crate::field::fields;
 use crate::line::Line;
-use crate::name::name;
+use crate::scanner::{Mismatch, Scanner};
 use std::alloc::{AllocError, Global};
 
 // The most bytes that a plan has.
 pub const LIMIT: usize = 32_768;
 
 // The lines of a plan up to its end, or up to the fault that ends it.
-#[derive(Drop)]
+#[derive(PartialEq, Eq, Debug, Drop)]
 pub struct Reading {
     pub lines: Vec<Line>,
     pub fault: Option<PlanFault>,
 }
 
-// The line at a place, and the place after it; or the place where no line goes on.
-fn read_line(bytes: &[u8], from: usize, first: bool) -> Result<(Line, usize), usize>
-    requires { from ≤ length bytes.now }
-    ensures { MatchResult result (λ p. LineAt first bytes.now from p.0 p.1) (λ at. Stuck (Written first) bytes.now from at) }
+// The line that comes, a plan's first or a later one.
+fn line(text: &mut Scanner, first: bool) -> Result<Line, Mismatch>
+    ensures { Scans (Written first) (LineAt first) text.old text.new result }
 {
-    let (verb, at) = name(bytes, from, first)?;
-    let (numbers, next) = fields(bytes, at, verb.arity())?;
-    Ok((verb.line(numbers), next))
+    text.verb(first)?.line(text)
 }
 
 // The fault after so many lines and so many bytes of the next one.
 fn fault_after(lines: usize, bytes: usize) -> PlanFault
     requires { (lines ≤ 32768) × (bytes ≤ 32768) }
-    ensures { told result ≡ (8, (lines + 1) ∷ (bytes + 1) ∷ []) }
+    ensures { result ≡ PlanFault.Malformed (lines + 1) (bytes + 1) }
 {
-    PlanFault {
+    PlanFault::Malformed {
         line: (lines + 1) as u32,
         column: (bytes + 1) as u32,
     }
@@ -47,15 +43,14 @@ fn read_lines(heap: Global, bytes: &[u8]) -> Result<Reading, AllocError>
     ensures { IfOk result (λ p. Parses bytes.now p.lines.items p.fault) }
 {
     let mut lines = Vec::new(heap);
-    let mut at = 0;
-    while at < bytes.len() || lines.is_empty() {
-        match read_line(bytes, at, lines.is_empty()) {
-            Ok((line, next)) => {
-                lines.push(line)?;
-                at = next;
-            }
-            Err(place) => {
-                let fault = Some(fault_after(lines.len(), place - at));
+    let mut text = Scanner { rest: bytes };
+    // A plan has at least one line.
+    while !text.rest.is_empty() || lines.is_empty() {
+        let before = text.rest.len();
+        match line(&mut text, lines.is_empty()) {
+            Ok(line) => lines.push(line)?,
+            Err(Mismatch) => {
+                let fault = Some(fault_after(lines.len(), before - text.rest.len()));
                 return Ok(Reading { lines, fault });
             }
         }
@@ -76,7 +71,7 @@ pub fn read_plan(heap: Global, bytes: &[u8]) -> Result<Reading, AllocError>
     ensures only { OneReading }
 {
     if is_too_long(bytes) {
-        let fault = Some(PlanFault { line: 0, column: 0 });
+        let fault = Some(PlanFault::TooLong);
         return Ok(Reading {
             lines: Vec::new(heap),
             fault,

@@ -42,7 +42,7 @@ fn faults_have_their_places(rt: HostRuntime) -> Result<(), Fail> {
     ];
     for (text, line, column) in cases {
         let reading = read_plan(rt.alloc(), text)?;
-        assert_eq!(rt; reading.fault, Some(PlanFault { line, column }));
+        assert_eq!(rt; reading.fault, Some(PlanFault::Malformed { line, column }));
     }
     Ok(())
 }
@@ -51,8 +51,11 @@ fn faults_have_their_places(rt: HostRuntime) -> Result<(), Fail> {
 fn a_plan_may_be_too_long(rt: HostRuntime) -> Result<(), Fail> {
     let text = [b's'; 32_769];
     let reading = read_plan(rt.alloc(), &text[0..32_768])?;
-    assert_eq!(rt; reading.fault, Some(PlanFault { line: 1, column: 2 }));
+    assert_eq!(rt;
+        reading.fault,
+        Some(PlanFault::Malformed { line: 1, column: 2 })
+    );
     let reading = read_plan(rt.alloc(), &text)?;
-    assert_eq!(rt; reading.fault, Some(PlanFault { line: 0, column: 0 }));
+    assert_eq!(rt; reading.fault, Some(PlanFault::TooLong));
     Ok(())
 }

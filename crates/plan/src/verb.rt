@@ -1,10 +1,12 @@
 // What a line begins with: the name of its call.
-ghost use Rattle.std.specs.Prelude.{◌≡◌, slice_index};
-ghost use Rattle.plan.specs.Verbs.{word, arity, line_of};
+ghost use Rattle.std.specs.Prelude.{◌≡◌};
+ghost use Rattle.plan.specs.Verbs.{word, arity};
+ghost use Rattle.plan.specs.Parts.{CallAt, Numbers, Scans};
 
 use crate::line::Line;
+use crate::scanner::{Mismatch, Scanner};
 
-#[derive(Clone, Copy)]
+#[derive(Clone, Copy, PartialEq, Eq, Debug)]
 pub enum Verb {
     Store,
     Load,
@@ -17,6 +19,14 @@ pub enum Verb {
     Rplacd,
     Look,
     Same,
+}
+
+// The line of a call, with these names for its fields, in the order in which its numbers come.
+macro_rules! line {
+    ($call:ident($($field:ident),+), $numbers:expr) => {{
+        let [$($field),+] = $numbers?;
+        Ok(Line::$call { $($field),+ })
+    }};
 }
 
 impl Verb {
@@ -39,44 +49,22 @@ impl Verb {
         }
     }
 
-    // How many numbers the call takes.
-    pub fn arity(self) -> usize
-        ensures { result ≡ arity self }
+    // The line of the call, whose numbers come.
+    pub fn line(self, text: &mut Scanner) -> Result<Line, Mismatch>
+        ensures { Scans (Numbers (arity self)) (CallAt self) text.old text.new result }
     {
         match self {
-            Verb::Clear | Verb::Look => 1,
-            Verb::Copy | Verb::Car | Verb::Cdr | Verb::Rplaca | Verb::Rplacd | Verb::Same => 2,
-            Verb::Load | Verb::Cons => 3,
-            Verb::Store => 4,
-        }
-    }
-
-    // The line of the call with the first of these numbers.
-    pub fn line(self, numbers: [u32; 4]) -> Line
-        ensures { result ≡ line_of self (slice_index numbers 0) (slice_index numbers 1) (slice_index numbers 2) (slice_index numbers 3) }
-    {
-        let [a, b, c, d] = numbers;
-        match self {
-            Verb::Store => Line::Store {
-                cells: a,
-                k1: b,
-                k2: c,
-                floor: d,
-            },
-            Verb::Load => Line::Load {
-                register: a,
-                offset: b,
-                length: c,
-            },
-            Verb::Clear => Line::Clear { i: a },
-            Verb::Copy => Line::Copy { i: a, a: b },
-            Verb::Cons => Line::Cons { i: a, a: b, b: c },
-            Verb::Car => Line::Car { i: a, a: b },
-            Verb::Cdr => Line::Cdr { i: a, a: b },
-            Verb::Rplaca => Line::Rplaca { a, b },
-            Verb::Rplacd => Line::Rplacd { a, b },
-            Verb::Look => Line::Look { i: a },
-            Verb::Same => Line::Same { i: a, j: b },
+            Verb::Store => line!(Store(cells, k1, k2, floor), text.numbers::<4>()),
+            Verb::Load => line!(Load(register, offset, length), text.numbers::<3>()),
+            Verb::Clear => line!(Clear(i), text.numbers::<1>()),
+            Verb::Copy => line!(Copy(i, a), text.numbers::<2>()),
+            Verb::Cons => line!(Cons(i, a, b), text.numbers::<3>()),
+            Verb::Car => line!(Car(i, a), text.numbers::<2>()),
+            Verb::Cdr => line!(Cdr(i, a), text.numbers::<2>()),
+            Verb::Rplaca => line!(Rplaca(a, b), text.numbers::<2>()),
+            Verb::Rplacd => line!(Rplacd(a, b), text.numbers::<2>()),
+            Verb::Look => line!(Look(i), text.numbers::<1>()),
+            Verb::Same => line!(Same(i, j), text.numbers::<2>()),
         }
     }
 }

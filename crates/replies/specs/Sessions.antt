@@ -1,14 +1,15 @@
 -- What is answered to a plan: the replies to its lines, from a run of a store of its own, and the text that is printed.
-use Rattle.std.specs.Prelude.{◌≡◌, ℕ, min, List, [], ◌∷◌, ◌++◌, Some, None, codes, decimal, Option}
+use Rattle.std.specs.Prelude.{◌≡◌, ℕ, min, List, [], ◌∷◌, ◌++◌, Some, None, Ok, Err, codes, Option, Result}
 use Rattle.atoms.specs.declared.zone.Zone.{Zone}
 use Rattle.atoms.specs.Zones.{zone_code, zone_of}
 use Rattle.collector.specs.Laws.{RunOf}
 use Rattle.collector.specs.Outcomes.{Outcome}
 use Rattle.collector.specs.States.{Fixed, State}
-use Rattle.pacing.specs.declared.effort.Effort.{Effort}
+use Rattle.pacing.specs.declared.fault.EffortFault.{EffortFault}
 use Rattle.plan.specs.declared.fault.PlanFault.{PlanFault}
 use Rattle.plan.specs.declared.line.Line.{Line}
 use Rattle.plan.specs.Readings.{Reads}
+use Rattle.plan.specs.Refusals.{fault_text}
 use Rattle.replies.specs.declared.fault.LineFault.{LineFault}
 use Rattle.replies.specs.declared.opening.Opening.{Opening}
 use Rattle.replies.specs.declared.reply.Reply.{Reply}
@@ -17,12 +18,12 @@ use Rattle.replies.specs.Replies.{text_of_replies}
 use Rattle.replies.specs.Requests.{calls_of_lines, replies_of_lines}
 
 -- What is fixed in a plan's store over a bank of this limit: zones for atoms, the floor rule, and the effort.
-abbrev pub plan_fixed : ℕ → ℕ → Effort → Fixed Zone
-plan_fixed limit floor e = record {
+abbrev pub plan_fixed : ℕ → Opening → Fixed Zone
+plan_fixed limit opening = record {
   atoms = record { limit = limit; coded = zone_code; valued = zone_of };
-  floor = floor;
-  k1 = e.k1;
-  k2 = e.k2;
+  floor = opening.floor;
+  k1 = opening.effort.k1;
+  k2 = opening.effort.k2;
 }
 
 -- The lines after the first.
@@ -31,29 +32,27 @@ later [] = []
 later (l ∷ ls) = ls
 
 -- The replies to the lines after the first, from a new store over a bank of this limit and size: their calls are a lawful run of it; each line is replied to by the outcome of its call, or by its own refusal.
-abbrev pub Served : ℕ → ℕ → Effort → ℕ → List Line → List Reply → Type 0
-Served limit size e floor ls rs =
-    (os : List (Outcome Zone)) × (s : State Zone) × RunOf (plan_fixed limit floor e) size (calls_of_lines ls) os s × (rs ≡ Reply.Done ∷ replies_of_lines ls os)
+abbrev pub Served : ℕ → ℕ → Opening → List Line → List Reply → Type 0
+Served limit size opening ls rs =
+    (os : List (Outcome Zone)) × (s : State Zone) × RunOf (plan_fixed limit opening) size (calls_of_lines ls) os s × (rs ≡ Reply.Done ∷ replies_of_lines ls os)
 
 -- The replies to a plan's lines, by how it opens: a store of that many packed cells, 4,096 at most.
-abbrev pub RepliedBy : Opening → List Line → List Reply → Type 0
-RepliedBy Opening.Nothing ls rs = rs ≡ []
-RepliedBy (Opening.Refused fault) ls rs = rs ≡ Reply.Refused (LineFault.Effort fault) ∷ []
-RepliedBy (Opening.Store cells e floor) ls rs = Served 268435455 (min cells 4096) e floor ls rs
+abbrev pub RepliedBy : Result (Option Opening) EffortFault → List Line → List Reply → Type 0
+RepliedBy (Ok None) ls rs = rs ≡ []
+RepliedBy (Ok (Some opening)) ls rs = Served 268435455 (min opening.cells 4096) opening ls rs
+RepliedBy (Err fault) ls rs = rs ≡ Reply.Refused (LineFault.Effort fault) ∷ []
 
 abbrev pub Replied : List Line → List Reply → Type 0
 Replied ls rs = RepliedBy (opening_of ls) (later ls) rs
 
 -- A fault's line is printed unless the opening was refused, which ends the plan.
 abbrev pub fault_line : PlanFault → List ℕ
-fault_line f = codes "fault " ++ (decimal f.line ++ (codes " " ++ (decimal f.column ++ codes "\n")))
+fault_line f = fault_text f ++ codes "\n"
 
-abbrev pub text_of_fault : Opening → Option PlanFault → List ℕ
-text_of_fault Opening.Nothing None = []
-text_of_fault Opening.Nothing (Some f) = fault_line f
-text_of_fault (Opening.Refused fault) r = []
-text_of_fault (Opening.Store cells e floor) None = []
-text_of_fault (Opening.Store cells e floor) (Some f) = fault_line f
+abbrev pub text_of_fault : Result (Option Opening) EffortFault → Option PlanFault → List ℕ
+text_of_fault (Ok opening) None = []
+text_of_fault (Ok opening) (Some f) = fault_line f
+text_of_fault (Err fault) r = []
 
 -- The text that is printed for a plan.
 pub record Answered (bytes text : List ℕ) : Type 0 where

@@ -3,7 +3,7 @@ ghost use Rattle.std.specs.Prelude.{◌≡◌, IfOk};
 ghost use Rattle.replies.specs.Requests.{call_of, calls_of_lines, replies_of_lines};
 
 use super::fault::LineFault;
-use super::reply::{Reply, reply_to};
+use super::reply::Reply;
 use atoms::Zone;
 use collector::{Call, Outcome};
 use plan::Line;
@@ -39,10 +39,7 @@ pub fn calls_in(heap: Global, lines: &[Line]) -> Result<Vec<Call<Zone>>, AllocEr
 {
     let mut calls = Vec::new(heap);
     for line in lines {
-        let Ok(request) = call_of(*line) else {
-            continue;
-        };
-        if let Some(call) = request {
+        if let Some(call) = call_of(*line).ok().flatten() {
             calls.push(call)?;
         }
     }
@@ -58,18 +55,17 @@ pub fn replies_by(
     ensures { IfOk result (λ v. v.items ≡ replies_of_lines lines.now outcomes.now) }
 {
     let mut replies = Vec::new(heap);
-    let mut next = 0;
+    let mut rest = outcomes;
     for line in lines {
-        let request = match call_of(*line) {
-            Ok(request) => request,
-            Err(fault) => {
-                replies.push(Reply::Refused(fault))?;
-                continue;
+        match call_of(*line) {
+            Ok(None) => {}
+            Ok(Some(_)) => {
+                if let Some((outcome, later)) = rest.split_first() {
+                    replies.push(outcome.into())?;
+                    rest = later;
+                }
             }
-        };
-        if request.is_some() && next < outcomes.len() {
-            replies.push(reply_to(&outcomes[next]))?;
-            next += 1;
+            Err(fault) => replies.push(Reply::Refused(fault))?,
         }
     }
     Ok(replies)

@@ -11,13 +11,14 @@ use pacing::fault::EffortFault;
 use std::fmt;
 
 // The fault of the part that refused, whole.
-#[derive(Clone, Copy)]
+#[derive(Clone, Copy, PartialEq, Eq, Debug)]
 pub enum LineFault {
     Effort(EffortFault),
     Zone(ZoneFault),
     Store(StoreFault),
 }
 
+// By hand: what a derive of `From` writes promises nothing.
 impl From<EffortFault> for LineFault {
     ghost from_gives = { λ e f. f ≡ LineFault.Effort e };
 
@@ -43,7 +44,7 @@ impl From<StoreFault> for LineFault {
 }
 
 impl LineFault {
-    // The number of the refusal.
+    // The number of the refusal. No trait's: no code asks a fault of any type for its number.
     pub fn number(&self) -> u8
         ensures { result ≡ (told self.now).0 }
     {
@@ -61,11 +62,12 @@ impl LineFault {
         match *self {
             LineFault::Effort(EffortFault::OutOfRange { k1, k2 }) => (k1, Some(k2)),
             LineFault::Zone(ZoneFault::NotAZone { offset, length }) => (offset, Some(length)),
-            LineFault::Store(StoreFault::Bank(BankFault::NoSuchCell(n))) => (n, None),
-            LineFault::Store(StoreFault::Bank(BankFault::WordTooWide(n))) => (n, None),
-            LineFault::Store(StoreFault::NoRegister(r)) => (r, None),
-            LineFault::Store(StoreFault::NotACell(r)) => (r, None),
-            LineFault::Store(StoreFault::NoFreeCell(work)) => (work, None),
+            LineFault::Store(
+                StoreFault::Bank(BankFault::NoSuchCell(n) | BankFault::WordTooWide(n))
+                | StoreFault::NoRegister(n)
+                | StoreFault::NotACell(n)
+                | StoreFault::NoFreeCell(n),
+            ) => (n, None),
         }
     }
 }

@@ -10,6 +10,6 @@ mod text;
 
 pub use call::{call_of, calls_in, replies_by};
 pub use fault::LineFault;
-pub use reply::{Reply, reply_to};
+pub use reply::Reply;
 pub use session::{answer_plan, replies_to};
 pub use text::replies_text;

@@ -6,40 +6,34 @@ use pacing::effort::Effort;
 use pacing::fault::EffortFault;
 use plan::Line;
 
-#[derive(Clone, Copy)]
-pub enum Opening {
-    // no line, or no store line first, which no reading gives
-    Nothing,
-    Refused(EffortFault),
-    Store {
-        cells: u32,
-        effort: Effort,
-        floor: u32,
-    },
+// The store that a plan asks for.
+#[derive(Clone, Copy, PartialEq, Eq, Debug)]
+pub struct Opening {
+    pub cells: u32,
+    pub effort: Effort,
+    pub floor: u32,
 }
 
-// The store that a plan's first line asks for, or its refusal.
-pub fn open_plan(lines: &[Line]) -> Opening
+// The store that a plan's first line asks for, or its refusal; none where there is no line, or no store line first, which no
+// reading gives.
+pub fn open_plan(lines: &[Line]) -> Result<Option<Opening>, EffortFault>
     ensures { result ≡ opening_of lines.now }
 {
-    let Some(first) = lines.first().copied() else {
-        return Opening::Nothing;
-    };
-    let Line::Store {
-        cells,
-        k1,
-        k2,
-        floor,
-    } = first
-    else {
-        return Opening::Nothing;
-    };
-    match Effort::new(k1, k2) {
-        Ok(effort) => Opening::Store {
+    let Some(
+        Line::Store {
             cells,
-            effort,
+            k1,
+            k2,
             floor,
         },
-        Err(fault) => Opening::Refused(fault),
-    }
+    ) = lines.first().copied()
+    else {
+        return Ok(None);
+    };
+    let effort = Effort::new(k1, k2)?;
+    Ok(Some(Opening {
+        cells,
+        effort,
+        floor,
+    }))
 }

@@ -7,7 +7,7 @@ use atoms::Zone;
 use collector::{Answer, Outcome, Seen};
 use std::fmt;
 
-#[derive(Clone, Copy)]
+#[derive(Clone, Copy, PartialEq, Eq, Debug)]
 pub enum Reply {
     Done,
     // of a cons, with the work of its turn
@@ -37,32 +37,38 @@ impl fmt::Display for Reply {
 }
 
 // The reply to a line by the outcome of its call.
-pub fn reply_to(outcome: &Outcome<Zone>) -> Reply
-    ensures { result ≡ reply_of outcome.now }
-{
-    match outcome {
-        Ok(answer) => answered(answer),
-        Err(fault) => Reply::Refused((*fault).into()),
+impl From<&Outcome<Zone>> for Reply {
+    ghost from_gives = { λ e r. r ≡ reply_of e.now };
+
+    fn from(outcome: &Outcome<Zone>) -> Reply {
+        match outcome {
+            Ok(answer) => answer.into(),
+            Err(fault) => Reply::Refused((*fault).into()),
+        }
     }
 }
 
-fn answered(answer: &Answer<Zone>) -> Reply
-    ensures { result ≡ answer_reply answer.now }
-{
-    match answer {
-        Answer::Done => Reply::Done,
-        Answer::Worked(work) => Reply::Worked(*work),
-        Answer::Saw(seen) => shown(seen),
-        Answer::Same(same) => Reply::Same(*same),
+impl From<&Answer<Zone>> for Reply {
+    ghost from_gives = { λ e r. r ≡ answer_reply e.now };
+
+    fn from(answer: &Answer<Zone>) -> Reply {
+        match answer {
+            Answer::Done => Reply::Done,
+            Answer::Worked(work) => Reply::Worked(*work),
+            Answer::Saw(seen) => seen.into(),
+            Answer::Same(same) => Reply::Same(*same),
+        }
     }
 }
 
-fn shown(seen: &Seen<Zone>) -> Reply
-    ensures { result ≡ seen_reply seen.now }
-{
-    match *seen {
-        Seen::Nil => Reply::Nil,
-        Seen::Cell => Reply::Cell,
-        Seen::Atom(zone) => Reply::Atom(zone),
+impl From<&Seen<Zone>> for Reply {
+    ghost from_gives = { λ e r. r ≡ seen_reply e.now };
+
+    fn from(seen: &Seen<Zone>) -> Reply {
+        match *seen {
+            Seen::Nil => Reply::Nil,
+            Seen::Cell => Reply::Cell,
+            Seen::Atom(zone) => Reply::Atom(zone),
+        }
     }
 }

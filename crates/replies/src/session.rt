@@ -1,6 +1,5 @@
 // A plan, answered.
-ghost use Rattle.std.specs.Prelude.{◌≡◌, min, [], ◌∷◌, length, IfOk, string_bytes};
-ghost use Rattle.replies.specs.declared.opening.Opening.{Opening};
+ghost use Rattle.std.specs.Prelude.{◌≡◌, length, IfOk, Ok, Some, string_bytes};
 ghost use Rattle.replies.specs.Sessions.{Served, RepliedBy, Replied, Answered, text_of_fault, later};
 
 use super::call::{calls_in, replies_by};
@@ -10,7 +9,7 @@ use super::text::replies_text;
 use atoms::zones::Zones;
 use bank::Bank;
 use memory::PackedBank;
-use pacing::effort::Effort;
+use pacing::fault::EffortFault;
 use pacing::floor::FloorRule;
 use plan::{Line, PlanFault, read_plan};
 use std::alloc::{AllocError, Global};
@@ -20,23 +19,20 @@ use store::run;
 fn serve_on<B: Bank + Drop>(
     heap: Global,
     bank: B,
-    effort: Effort,
-    floor: u32,
+    opening: Opening,
     lines: &[Line],
 ) -> Result<Vec<Reply>, AllocError>
-    ensures { IfOk result (λ v. Served (B.limit bank) (length (B.cells bank)) effort floor lines.now v.items) }
+    ensures { IfOk result (λ v. Served (B.limit bank) (length (B.cells bank)) opening lines.now v.items) }
 {
     let calls = calls_in(heap, lines)?;
-    let Ok((outcomes, _store)) = run(
+    let (outcomes, _store) = run(
         heap,
         bank,
         Zones,
-        FloorRule::new(floor),
-        effort,
+        FloorRule::new(opening.floor),
+        opening.effort,
         calls.as_slice(),
-    ) else {
-        return Err(AllocError);
-    };
+    )?;
     let replies = replies_by(heap, lines, outcomes.as_slice())?;
     let mut all = Vec::new(heap);
     all.push(Reply::Done)?;
@@ -45,24 +41,12 @@ fn serve_on<B: Bank + Drop>(
 }
 
 // The same over packed cells in memory of its own.
-fn serve(
-    heap: Global,
-    cells: u32,
-    effort: Effort,
-    floor: u32,
-    lines: &[Line],
-) -> Result<Vec<Reply>, AllocError>
-    ensures { IfOk result (λ v. RepliedBy (Opening.Store cells effort floor) lines.now v.items) }
+fn serve(heap: Global, opening: Opening, lines: &[Line]) -> Result<Vec<Reply>, AllocError>
+    ensures { IfOk result (λ v. RepliedBy (Ok (Some opening)) lines.now v.items) }
 {
-    let size = cells.min(4096) as usize;
+    let size = opening.cells.min(4096) as usize;
     let mut memory = vec![in heap; 0u64; size]?;
-    serve_on(
-        heap,
-        PackedBank::new(memory.as_mut_slice()),
-        effort,
-        floor,
-        lines,
-    )
+    serve_on(heap, PackedBank::new(memory.as_mut_slice()), opening, lines)
 }
 
 // The replies to a plan's lines.
@@ -70,41 +54,36 @@ pub fn replies_to(heap: Global, lines: &[Line]) -> Result<Vec<Reply>, AllocError
     ensures { IfOk result (λ v. Replied lines.now v.items) }
 {
     match open_plan(lines) {
-        Opening::Nothing => Ok(Vec::new(heap)),
-        Opening::Refused(fault) => {
+        Ok(Some(opening)) => serve(heap, opening, after_first(lines)),
+        Ok(None) => Ok(Vec::new(heap)),
+        Err(fault) => {
             let mut replies = Vec::new(heap);
             replies.push(Reply::Refused(fault.into()))?;
             Ok(replies)
         }
-        Opening::Store {
-            cells,
-            effort,
-            floor,
-        } => serve(heap, cells, effort, floor, after_first(lines)),
     }
 }
 
 fn after_first(lines: &[Line]) -> &[Line]
     ensures { result.now ≡ later lines.now }
 {
-    if lines.is_empty() {
+    let Some((_, rest)) = lines.split_first() else {
         return lines;
-    }
-    &lines[1..]
+    };
+    rest
 }
 
 // What is printed of the fault that ends a plan, if it comes to that.
 fn fault_text(
     heap: Global,
-    opening: Opening,
+    opening: Result<Option<Opening>, EffortFault>,
     fault: Option<PlanFault>,
 ) -> Result<String, AllocError>
     ensures { IfOk result (λ t. string_bytes t ≡ text_of_fault opening fault) }
 {
     match (opening, fault) {
-        (Opening::Refused(_), _) => Ok(String::new(heap)),
-        (_, None) => Ok(String::new(heap)),
-        (_, Some(PlanFault { line, column })) => format!(in heap; "fault {line} {column}\n"),
+        (Ok(_), Some(fault)) => format!(in heap; "{fault}\n"),
+        _ => Ok(String::new(heap)),
     }
 }
 

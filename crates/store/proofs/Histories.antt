@@ -1,8 +1,6 @@
 -- A run and one more call. Assumes nothing.
-use Rattle.std.proofs.Common.{◌≡◌, ℕ, ◌+◌, ◌<◌, Bool, List, [], ◌∷◌, ◌++◌, length, get_or, take, Option, sym, ap, ◌∙◌, subst}
+use Rattle.std.proofs.Common.{◌≡◌, ℕ, ◌+◌, ◌<◌, Bool, List, [], ◌∷◌, ◌++◌, length, get_or, take, sym, ap, ◌∙◌, subst}
 use Rattle.std.proofs.lemmas.List.{take_more}
-use Rattle.bank.specs.Banks.{Sound}
-use Rattle.bank.specs.declared.word.Cell.{Cell}
 use Rattle.collector.specs.declared.call.Call.{Call}
 use Rattle.collector.specs.States.{Fixed, State, new, size}
 use Rattle.collector.specs.Outcomes.{Outcome}
@@ -11,8 +9,6 @@ use Rattle.collector.specs.Runs.{Keeps}
 use Rattle.collector.specs.Laws.{Grounded}
 use Rattle.collector.proofs.Extend.{run-begins, run-extends}
 use Rattle.collector.proofs.Start.{linked-length}
-use Rattle.store.specs.declared.store.Store.{Store}
-use Rattle.store.specs.Meaning.{meant}
 use Rattle.collector.specs.Laws.{RunOf}
 
 -- A new store has made no call.
@@ -37,16 +33,6 @@ pub run-next : {V : Type 0} (fixed : Fixed V) (N : ℕ) → Grounded fixed N →
 run-next {V} fixed N ground cs i os ps s t c o says l here more keeps et eo r =
     let front : take (i + 1) cs ≡ take i cs ++ c ∷ [] = take_more cs i c l ∙ ap (λ (x : Call V). take i cs ++ x ∷ []) (sym here) in
     run-as fixed N t (take i cs ++ c ∷ []) (take (i + 1) cs) (os ++ o ∷ []) ps (sym front) (sym more) (run_more fixed N ground (take i cs) os s t c o says r keeps et eo)
-
--- What the interfaces promise of any store.
-pub grounded-by : {B K R V : Type 0} (limit : B → ℕ) (cells : B → List Cell) (coded : K → V → ℕ) (valued : K → ℕ → Option V) (floor : R → ℕ) → ((b : B) → Sound (limit b) (cells b))
-    → (s : Store B K R) → Grounded (meant limit cells coded valued floor s).fixed (size (meant limit cells coded valued floor s))
-grounded-by limit cells coded valued floor sound s = record {
-  few = (sound s.bank).few;
-  wide = (sound s.bank).wide;
-  scans_some = s.effort.fits.0.0;
-  sweeps_some = s.effort.fits.1.0;
-}
 
 pub grounded-new : {V : Type 0} (fixed : Fixed V) (N : ℕ) (s : State V) → s ≡ new fixed N → Grounded s.fixed (size s) → Grounded fixed N
 grounded-new {V} fixed N s e r = subst (λ (n : ℕ). Grounded fixed n) (linked-length 0 N) (subst (λ (u : State V). Grounded u.fixed (size u)) e r)

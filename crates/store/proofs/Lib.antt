@@ -1,6 +1,5 @@
 pub mod Stacks
-pub mod Heaps
-pub mod Sweeps
-pub mod Fills
 pub mod Links
+pub mod Scans
+pub mod Sweeps
 pub mod Histories

@@ -1,9 +1,8 @@
 -- Reading the waiting stack after a push and a pop. Assumes nothing.
-use Rattle.std.proofs.Common.{◌≡◌, ℕ, zero, suc, ◌+◌, ◌-◌, ◌<◌, ◌≤◌, eqb, ltb, ◌≢◌, List, ◌∷◌, length, get_or, set, Some, sym, refl, ap, ◌∙◌, add-one, arith, get_or-set_other, get_or-set_same}
-use Rattle.std.proofs.lemmas.Bool.{lt-ltb, le-ltb, cond-true, cond-false, ne_eqb}
-use Rattle.collector.specs.Lists.{is_empty}
+use Rattle.std.proofs.Common.{◌≡◌, ℕ, zero, suc, ◌+◌, ◌<◌, ◌≤◌, ltb, ◌≢◌, List, ◌∷◌, length, get_or, set, sym, refl, ap, ◌∙◌, add-one, arith, get_or-set_other, get_or-set_same}
+use Rattle.std.proofs.lemmas.Bool.{lt-ltb, le-ltb, cond-true, cond-false}
 use Rattle.collector.specs.Turns.{pushed}
-use Rattle.store.specs.Stacks.{backwards, first, popped}
+use Rattle.store.specs.Stacks.{backwards}
 
 pub backwards-length : (n : ℕ) (ms : List ℕ) → length (backwards n ms) ≡ n
 backwards-length zero ms = refl
@@ -29,17 +28,3 @@ pub backwards-full : (n v : ℕ) (ms : List ℕ) → 4096 ≤ n → backwards n 
 backwards-full n v ms l =
     let len : length (backwards n ms) ≡ n = backwards-length n ms in
     sym (cond-false (ltb (length (backwards n ms)) 4096) (v ∷ backwards n ms) (backwards n ms) (le-ltb (length (backwards n ms)) 4096 (omega arith)))
-
-pub backwards-empty : (n : ℕ) (ms : List ℕ) → eqb n 0 ≡ is_empty (backwards n ms)
-backwards-empty zero ms = refl
-backwards-empty (suc n) ms = ne_eqb (suc n) 0 (λ e. let bad : ⊥ = omega arith in bad)
-
--- One number fewer.
-step : (n : ℕ) → 0 < n → n ≡ suc (n - 1)
-step n l = omega arith
-
-pub backwards-first : (n : ℕ) (ms : List ℕ) → 0 < n → Some (get_or ms (n - 1) 0) ≡ first (backwards n ms)
-backwards-first n ms l = sym (ap (λ (k : ℕ). first (backwards k ms)) (step n l))
-
-pub backwards-popped : (n : ℕ) (ms : List ℕ) → 0 < n → backwards (n - 1) ms ≡ popped (backwards n ms)
-backwards-popped n ms l = sym (ap (λ (k : ℕ). popped (backwards k ms)) (step n l))

@@ -4,16 +4,15 @@ use Rattle.std.specs.declared.alloc.Global.{Global}
 use Rattle.collector.specs.declared.call.Call.{Call}
 use Rattle.collector.specs.States.{Fixed, State}
 use Rattle.collector.specs.Outcomes.{Outcome}
-use Rattle.store.specs.declared.store.Store.{Store}
 use Rattle.store.specs.declared.runs.RunFault.{RunFault}
 use Rattle.collector.specs.Laws.{RunOf}
 
 -- Want of memory has the outcomes before the last call, and the last call's own.
-abbrev pub Ran : {B K R V : Type 0} → Fixed V → ℕ → List (Call V) → (Store B K R → State V) → Result (Vec (Outcome V) Global × Store B K R) (RunFault B K R V) → Type 0
+abbrev pub Ran : {S V : Type 0} → Fixed V → ℕ → List (Call V) → (S → State V) → Result (Vec (Outcome V) Global × S) (RunFault S V) → Type 0
 Ran fixed size calls meaning (Ok done) = RunOf fixed size calls (vec_items done.0) (meaning done.1)
 Ran fixed size calls meaning (Err fault) = (made : ℕ) × RunOf fixed size (take made calls) (vec_items fault.outcomes ++ fault.last ∷ []) (meaning fault.store)
 
 -- The store that is handed back, in either case.
-abbrev pub store_of : {B K R V : Type 0} → Result (Vec (Outcome V) Global × Store B K R) (RunFault B K R V) → Store B K R
+abbrev pub store_of : {S V : Type 0} → Result (Vec (Outcome V) Global × S) (RunFault S V) → S
 store_of (Ok done) = done.1
 store_of (Err fault) = fault.store

@@ -1,14 +1,10 @@
 -- The waiting stack as a list of numbers, the latest first.
 use Rattle.std.specs.Prelude.{ℕ, zero, suc, List, [], ◌∷◌, Some, None, Option, slice_index}
-use Rattle.store.specs.declared.waiting.Waiting.{Waiting}
 
 -- The first n of the numbers, from the last of them back.
 abbrev pub backwards : ℕ → List ℕ → List ℕ
 backwards zero ms = []
 backwards (suc n) ms = slice_index ms n ∷ backwards n ms
-
-abbrev pub waiting_of : Waiting → List ℕ
-waiting_of w = backwards w.len w.cells
 
 abbrev pub first : List ℕ → Option ℕ
 first [] = None

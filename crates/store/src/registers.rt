@@ -1,12 +1,49 @@
-ghost use Rattle.std.specs.Prelude.{◌≡◌, length};
+ghost use Rattle.std.specs.Prelude.{◌≡◌, length, replicate, if◌then◌else◌, Ok, Err, nat_lt, slice_set};
+ghost use Rattle.bank.specs.declared.word.Word.{Word};
+ghost use Rattle.collector.specs.declared.fault.StoreFault.{StoreFault};
+ghost use Rattle.collector.specs.Outcomes.{register};
 
 use bank::Word;
-
-mod methods;
+use collector::StoreFault;
 
 // The sixteen registers.
 #[derive(Clone, Copy)]
 pub struct Registers {
     words: [Word; 16],
     ghost full: { length words ≡ 16 },
+}
+
+impl Registers {
+    pub fn new() -> Registers
+        ensures { result.words ≡ replicate 16 Word.Nil }
+    {
+        Registers {
+            words: [Word::Nil; 16],
+        }
+    }
+
+    // The word of a register, or the refusal of a number that is none's.
+    pub fn get(&self, r: u32) -> Result<Word, StoreFault>
+        ensures { result ≡ (if nat_lt r 16 then Ok (register self.now.words r) else Err (StoreFault.NoRegister r)) }
+    {
+        if r >= 16 {
+            return Err(StoreFault::NoRegister(r));
+        }
+        Ok(self.words[r as usize])
+    }
+
+    // A register set; a number that is none's changes nothing.
+    pub fn set(&mut self, r: u32, word: Word)
+        ensures { self.new.words ≡ slice_set self.old.words r word }
+    {
+        if r < 16 {
+            self.words[r as usize] = word;
+        }
+    }
+
+    pub fn words(&self) -> [Word; 16]
+        ensures { result ≡ self.now.words }
+    {
+        self.words
+    }
 }

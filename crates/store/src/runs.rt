@@ -1,33 +1,33 @@
 // A whole list of calls on a new store.
 ghost use Rattle.std.specs.Prelude.{◌≡◌, ℕ, length};
 ghost use Rattle.collector.specs.States.{Fixed, new};
-ghost use Rattle.store.specs.Meaning.{meant, fixed_by};
+ghost use Rattle.store.specs.Meaning.{fixed_by};
 ghost use Rattle.store.specs.Results.{Ran, store_of};
 
+use crate::list_store::ListStore;
 use crate::store::Store;
 use atoms::Kind;
 use bank::Bank;
 use collector::{Call, Outcome};
 use pacing::effort::Effort;
 use pacing::rule::StartRule;
-use std::alloc::Global;
+use std::alloc::{AllocError, Global};
 
 // Memory for the outcomes ran out after some call: the outcomes before it, its own, and the store as it stands after it.
 #[derive(Drop)]
-pub struct RunFault<B, K, R, V> {
+pub struct RunFault<S, V> {
     pub outcomes: Vec<Outcome<V>>,
     pub last: Outcome<V>,
-    pub store: Store<B, K, R>,
+    pub store: S,
 }
 
+// The outcomes of all the calls, and the store after them.
+pub type Run<S, V> = Result<(Vec<Outcome<V>>, S), RunFault<S, V>>;
+
 // Makes every call in order; a store that is new makes a run.
-fn finish<B: Bank, K: Kind, R: StartRule>(
-    heap: Global,
-    mut store: Store<B, K, R>,
-    calls: &[Call<K::Value>],
-) -> Result<(Vec<Outcome<K::Value>>, Store<B, K, R>), RunFault<B, K, R, K::Value>>
-    ensures law { (fixed : Fixed K.Value) (size : ℕ) → meant B.limit B.cells K.coded K.valued R.floor store ≡ new fixed size → Ran fixed size calls.now (meant B.limit B.cells K.coded K.valued R.floor) result }
-    ensures kind { (store_of result).kind ≡ store.kind }
+fn finish<S: ListStore>(heap: Global, mut store: S, calls: &[Call<S::Value>]) -> Run<S, S::Value>
+    ensures law { (fixed : Fixed S.Value) (size : ℕ) → S.state store ≡ new fixed size → Ran fixed size calls.now S.state result }
+    ensures kind { S.kind (store_of result) ≡ S.kind store }
 {
     let mut outcomes = Vec::new(heap);
     for call in calls {
@@ -51,10 +51,17 @@ pub fn run<B: Bank, K: Kind, R: StartRule>(
     rule: R,
     effort: Effort,
     calls: &[Call<K::Value>],
-) -> Result<(Vec<Outcome<K::Value>>, Store<B, K, R>), RunFault<B, K, R, K::Value>>
-    ensures law { Ran (fixed_by B.limit K.coded K.valued R.floor bank kind rule effort) (length (B.cells bank)) calls.now (meant B.limit B.cells K.coded K.valued R.floor) result }
+) -> Run<Store<B, K, R>, K::Value>
+    ensures law { Ran (fixed_by B.limit K.coded K.valued R.floor bank kind rule effort) (length (B.cells bank)) calls.now ⟦<Store<B, K, R> as ListStore>⟧.state result }
     ensures kind { (store_of result).kind ≡ kind }
 {
     let store = Store::new(bank, kind, rule, effort);
     finish(heap, store, calls)
+}
+
+// Where nothing but the outcomes was wanted, want of memory is all that is left to say.
+impl<S: Drop, V: Drop> From<RunFault<S, V>> for AllocError {
+    fn from(_fault: RunFault<S, V>) -> AllocError {
+        AllocError
+    }
 }

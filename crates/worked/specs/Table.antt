@@ -55,8 +55,8 @@ loaded None = []
 abbrev pub aspect_row : Option Aspect → List ℕ
 aspect_row None = []
 aspect_row (Some Aspect.Clear) = 0 ∷ []
-aspect_row (Some (Aspect.Hold seconds)) = 1 ∷ seconds.0.n ∷ []
-aspect_row (Some (Aspect.Occupied train)) = 2 ∷ train.0.n ∷ []
+aspect_row (Some (Aspect.Hold seconds)) = 1 ∷ seconds.n ∷ []
+aspect_row (Some (Aspect.Occupied train)) = 2 ∷ train.n ∷ []
 
 -- An effort, or the refusal.
 abbrev pub effort_row : ℕ → ℕ → Option Effort → List ℕ

@@ -10,6 +10,10 @@ pub record Writes (ds : List ℕ) (n : ℕ) : Type 0 where
   pub number : n ≡ digits_value 10 (without_leading_plus ds)
   pub range : n < 2 ^ 32
 
+-- the text writes no number
+abbrev pub WritesNone : List ℕ → Type 0
+WritesNone ds = (n : ℕ) → ¬ Writes ds n
+
 abbrev pub NoSpace : List ℕ → Type 0
 NoSpace bs = (i : ℕ) → i < length bs → slice_index bs i ≢ 32
 
@@ -18,14 +22,17 @@ pub record Parted (line left right : List ℕ) : Type 0 where
   pub whole : line ≡ left ++ (32 ∷ right)
   pub first : NoSpace left
 
+-- the line has a space, and P holds of what stands before and after its first
+abbrev pub InTwo : List ℕ → (List ℕ → List ℕ → Type 0) → Type 0
+InTwo line P = (left : List ℕ) × (right : List ℕ) × Parted line left right × P left right
+
 -- what a line is read as, by case
 abbrev pub ReadsPair : List ℕ → Result (ℕ × ℕ) LineFault → Type 0
-ReadsPair line (Ok p) = (left : List ℕ) × (right : List ℕ) × Parted line left right × Writes left p.0 × Writes right p.1
+ReadsPair line (Ok p) = InTwo line (λ left right. Writes left p.0 × Writes right p.1)
 ReadsPair line (Err NotText) = ⊥
 ReadsPair line (Err NotTwo) = NoSpace line
-ReadsPair line (Err Offset) = (left : List ℕ) × (right : List ℕ) × Parted line left right × ((n : ℕ) → Writes left n → ⊥)
-ReadsPair line (Err Length) =
-    (left : List ℕ) × (right : List ℕ) × Parted line left right × ((n : ℕ) × Writes left n) × ((n : ℕ) → Writes right n → ⊥)
+ReadsPair line (Err Offset) = InTwo line (λ left right. WritesNone left)
+ReadsPair line (Err Length) = InTwo line (λ left right. ((n : ℕ) × Writes left n) × WritesNone right)
 
 -- what is said of a line that holds no two numbers
 abbrev pub why : LineFault → List ℕ

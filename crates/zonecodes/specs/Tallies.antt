@@ -13,9 +13,9 @@ abbrev pub more : ℕ → ℕ
 more n = min (n + 1) (2 ^ 64 - 1)
 
 abbrev pub counted : Result Listing Fault → Tally → Tally
-counted (Ok l) t = record { zones = more t.zones; refused = t.refused; bad = t.bad }
-counted (Err (Refused f)) t = record { zones = t.zones; refused = more t.refused; bad = t.bad }
-counted (Err (Line f)) t = record { zones = t.zones; refused = t.refused; bad = more t.bad }
+counted (Ok l) t = record t { zones = more t.zones }
+counted (Err (Refused f)) t = record t { refused = more t.refused }
+counted (Err (Line f)) t = record t { bad = more t.bad }
 
 abbrev pub totals : Tally → List ℕ
 totals t =

@@ -10,12 +10,13 @@ use atoms::zone::Zone;
 use std::fmt;
 
 // Why a line names no zone.
-#[derive(Clone, Copy)]
+#[derive(Clone, Copy, PartialEq, Eq, Debug)]
 pub enum Fault {
     Line(LineFault),
     Refused(ZoneFault),
 }
 
+// By hand, since a derived `From` promises nothing of the error that it makes.
 impl From<LineFault> for Fault {
     ghost from_gives = { λ e r. r ≡ Line e };
 

@@ -1,6 +1,6 @@
 // What a line holds: two numbers with one space between them.
-ghost use Rattle.std.specs.Prelude.{◌≡◌, ℕ, Some, MatchOption};
-ghost use Rattle.zonecodes.specs.Lines.{Writes, NoSpace, Parted, ReadsPair, why};
+ghost use Rattle.std.specs.Prelude.{Some, MatchOption};
+ghost use Rattle.zonecodes.specs.Lines.{Writes, WritesNone, NoSpace, Parted, ReadsPair, why};
 
 use std::fmt;
 
@@ -13,30 +13,22 @@ pub enum LineFault {
     Length,
 }
 
-impl LineFault {
-    fn reason(&self) -> &'static str
-        ensures { result.now ≡ why self.now }
-    {
-        match *self {
-            LineFault::NotText => "not text",
-            LineFault::NotTwo => "an offset, a space and a length are wanted",
-            LineFault::Offset => "the offset is no number from 0 to 4294967295",
-            LineFault::Length => "the length is no number from 0 to 4294967295",
-        }
-    }
-}
-
 impl fmt::Display for LineFault {
     ghost output = { λ f. Some (why f) };
 
     fn fmt<W: fmt::Write>(&self, f: &mut fmt::Formatter<W>) -> fmt::Result {
-        f.write_str(self.reason())
+        f.write_str(match *self {
+            LineFault::NotText => "not text",
+            LineFault::NotTwo => "an offset, a space and a length are wanted",
+            LineFault::Offset => "the offset is no number from 0 to 4294967295",
+            LineFault::Length => "the length is no number from 0 to 4294967295",
+        })
     }
 }
 
 // The number that a text writes, or none.
 fn number(text: &str) -> Option<u32>
-    ensures { MatchOption result ((n : ℕ) → Writes text.now n → ⊥) (λ n. Writes text.now n) }
+    ensures { MatchOption result (WritesNone text.now) (Writes text.now) }
 {
     text.parse::<u32>().ok()
 }
@@ -52,14 +44,8 @@ fn halves(line: &str) -> Option<(&str, &str)>
 pub fn read_pair(line: &str) -> Result<(u32, u32), LineFault>
     ensures { ReadsPair line.now result }
 {
-    let Some((left, right)) = halves(line) else {
-        return Err(LineFault::NotTwo);
-    };
-    let Some(offset) = number(left) else {
-        return Err(LineFault::Offset);
-    };
-    let Some(length) = number(right) else {
-        return Err(LineFault::Length);
-    };
+    let (left, right) = halves(line).ok_or(LineFault::NotTwo)?;
+    let offset = number(left).ok_or(LineFault::Offset)?;
+    let length = number(right).ok_or(LineFault::Length)?;
     Ok((offset, length))
 }

@@ -7,7 +7,7 @@ use atoms::zone::Zone;
 use atoms::zones::Zones;
 use std::fmt;
 
-#[derive(Clone, Copy)]
+#[derive(Clone, Copy, PartialEq, Eq, Debug)]
 pub struct Listing {
     zone: Zone,
     code: u32,
@@ -20,15 +20,12 @@ impl Listing {
     pub fn new(zone: Zone) -> Listing
         ensures { result ≡ listed zone }
     {
-        let Some(back) = reread(&Zones, &zone) else {
-            // Every zone reads back from its code.
-            unreachable()
-        };
         Listing {
             zone,
             code: Zones.code(&zone),
             last: zone.last(),
-            back,
+            // Every zone reads back from its code.
+            back: reread(&Zones, &zone).unwrap(),
         }
     }
 }

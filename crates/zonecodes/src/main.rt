@@ -9,8 +9,8 @@ mod tally;
 
 use answer::answer;
 use line::LineFault;
-use std::io;
 use std::io::{BufRead, BufReader};
+use std::{io, iter};
 use tally::Tally;
 
 fn main(rt: HostRuntime) -> anyhow::Result<()> {
@@ -19,9 +19,10 @@ fn main(rt: HostRuntime) -> anyhow::Result<()> {
 
 fn run(rt: &HostRuntime) -> anyhow::Result<()> {
     let mut tally = Tally::new();
-    let mut number: u64 = 0;
-    for line in BufReader::new(rt.alloc(), rt.stdin())?.lines(rt.alloc()) {
-        number = number.saturating_add(1);
+    // A number that is full stays full, where a range would end.
+    let numbers = iter::successors(Some(1_u64), |n| Some(n.saturating_add(1)));
+    let lines = BufReader::new(rt.alloc(), rt.stdin())?.lines(rt.alloc());
+    for (number, line) in numbers.zip(lines) {
         let answer = match line {
             Ok(text) => {
                 let text = text.as_str().trim();

@@ -6,7 +6,7 @@ use crate::answer::Fault;
 use crate::listing::Listing;
 use std::fmt;
 
-#[derive(Clone, Copy)]
+#[derive(Clone, Copy, PartialEq, Eq, Debug, Default)]
 pub struct Tally {
     zones: u64,
     refused: u64,
@@ -17,11 +17,7 @@ impl Tally {
     pub fn new() -> Tally
         ensures { result ≡ none }
     {
-        Tally {
-            zones: 0,
-            refused: 0,
-            bad: 0,
-        }
+        Tally::default()
     }
 
     // Counts one answer more; a count that is full stays full.
@@ -40,7 +36,11 @@ impl fmt::Display for Tally {
     ghost output = { λ t. Some (totals t) };
 
     fn fmt<W: fmt::Write>(&self, f: &mut fmt::Formatter<W>) -> fmt::Result {
-        let (zones, refused, bad) = (self.zones, self.refused, self.bad);
+        let Tally {
+            zones,
+            refused,
+            bad,
+        } = *self;
         write!(f, "zones {zones}, refused {refused}, bad lines {bad}")
     }
 }

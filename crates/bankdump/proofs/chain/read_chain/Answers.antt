@@ -10,12 +10,6 @@ use Rattle.bankdump.proofs.Chaining.{none_from, past-from, more-from, no-atom, r
 use Rattle.bankdump.proofs.chain.read_chain.Goals as goal
 use Rattle.bankdump.proofs.chain.read_chain.Goals.{in-Atom+in_ok-push, in_default-car}
 
-pub loop-init : goal.loop-init
-loop-init g c =
-    let cells = g.B.Bank.cells c.args.bank.now in
-    let first = Word.Cell c.args.start in
-    ap (λ t. t ++ atoms_from (length cells - 0) cells first) c.new-atoms.ensures.items ∙ ap (λ k. atoms_from k cells first) (sub-zero (length cells))
-
 pub loop-preserved : goal.loop-preserved
 loop-preserved g c =
     let cells = g.B.Bank.cells c.args.bank.now in
@@ -44,9 +38,3 @@ returns-in_default-cell g c =
     let cells = g.B.Bank.cells c.args.bank.now in
     let told = on_cell-refused cells c.in-Cell.n (get_or cells c.in-Cell.n blank) c.in_default-cell.field-0 c.in_default-cell.ensures in
     read_all _ _ _ c.loop.invariant (past-from _ cells c.loop.word c.in-Cell.n c.in-Cell.is told.0)
-
-pub returns : goal.returns
-returns g c =
-    let cells = g.B.Bank.cells c.args.bank.now in
-    let end : length cells - c.loop.counter ≡ 0 = omega (arith, c.loop-test.false, c.size-end.ensures) in
-    read_all _ _ _ c.loop.invariant (ap (λ k. atoms_from k cells c.loop.word) end)

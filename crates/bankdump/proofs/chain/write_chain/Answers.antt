@@ -8,24 +8,6 @@ use Rattle.bankdump.proofs.Chaining.{chain-takes, length-chain, chain-step}
 use Rattle.bankdump.proofs.chain.write_chain.Goals as goal
 use Rattle.bankdump.proofs.chain.write_chain.Goals.{then-n-next, else-n-next}
 
-pub loop-i-init : goal.loop-i-init
-loop-i-init g c = (refl, paste_none (g.B.Bank.cells c.args.bank.now) c.args.from (chain c.args.from c.args.atoms.now))
-
-pub overflow_cast-n : goal.overflow_cast-n
-overflow_cast-n g c =
-    let takes = chain-takes c.word_limit.result c.size.result c.args.from c.in_ok-next.next c.args.atoms.now c.in_ok-next.ensures in
-    omega (arith, (takes.each c.loop-i.i c.loop-i-test.true).0)
-
-pub overflow_add-n : goal.overflow_add-n
-overflow_add-n g c =
-    let takes = chain-takes c.word_limit.result c.size.result c.args.from c.in_ok-next.next c.args.atoms.now c.in_ok-next.ensures in
-    omega (arith, (takes.each c.loop-i.i c.loop-i-test.true).0)
-
-pub overflow_add-n-in-loop-i : goal.overflow_add-n-in-loop-i
-overflow_add-n-in-loop-i g c =
-    let takes = chain-takes c.word_limit.result c.size.result c.args.from c.in_ok-next.next c.args.atoms.now c.in_ok-next.ensures in
-    omega (arith, (takes.each c.loop-i.i c.loop-i-test.true).0)
-
 pub loop-i-preserved : goal.loop-i-preserved
 loop-i-preserved g c =
     let bank = g.B.Bank in

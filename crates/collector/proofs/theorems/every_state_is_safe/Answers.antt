@@ -1,5 +1,5 @@
-use Rattle.collector.proofs.Laws.{every-state-safe}
+use Rattle.collector.proofs.Laws.{every_state_safe}
 use Rattle.collector.proofs.theorems.every_state_is_safe.Goals as goal
 
 pub returns : goal.returns
-returns g c = every-state-safe
+returns g c = every_state_safe

@@ -1,9 +1,8 @@
-use Rattle.std.proofs.Common.{rules}
-use Rattle.memory.proofs.Fields.{reads-back, packs-apart}
+use Rattle.memory.proofs.Fields.{packs-apart}
 use Rattle.memory.proofs.packing.pack.Goals as goal
 
-pub returns-in_err-check : goal.returns-in_err-check
-returns-in_err-check c = record { value = search rules; back = reads-back; apart = packs-apart }
+pub returns-in_err-check-clause-apart : goal.returns-in_err-check-clause-apart
+returns-in_err-check-clause-apart c = packs-apart
 
-pub returns : goal.returns
-returns c = record { value = search rules; back = reads-back; apart = packs-apart }
+pub returns-clause-apart : goal.returns-clause-apart
+returns-clause-apart c = packs-apart

@@ -4,4 +4,4 @@ use Rattle.replies.proofs.call.replies_by.Given as goal
 
 -- What is there and what is still to come are all the replies.
 abbrev pub invariant-loop-line : goal.invariant-loop-line
-invariant-loop-line l = vec_items l.replies ++ replies_of_lines (drop l.line-index l.lines) (drop l.next l.outcomes) ≡ replies_of_lines l.lines l.outcomes
+invariant-loop-line l = vec_items l.replies ++ replies_of_lines (drop l.line-index l.lines) l.rest ≡ replies_of_lines l.lines l.outcomes

@@ -1,5 +1,4 @@
-use Rattle.std.proofs.Common.{◌∙◌}
 use Rattle.store.proofs.runs.run.Goals as goal
 
-pub returns : goal.returns
-returns g c = record { law = c.finish.ensures.law _ _ c.new-store.ensures.state; kind = c.finish.ensures.kind ∙ c.new-store.ensures.kind }
+pub returns-clause-law : goal.returns-clause-law
+returns-clause-law g c = c.finish.ensures.law _ _ c.new-store.ensures.state

@@ -1,14 +1,5 @@
-use Rattle.std.proofs.Common.{refl, ap, ◌∙◌}
-use Rattle.layers.specs.Holds.{held}
 use Rattle.layers.proofs.Holding.{held_none}
 use Rattle.layers.proofs.hold.Hold.new.Goals as goal
 
-pub returns : goal.returns
-returns g c =
-    let limit = g.B.Bank.limit c.args.below in
-    let cells = g.B.Bank.cells c.args.below in
-    record {
-      below = refl;
-      empty = c.empty.ensures;
-      same = ap (λ p. held limit p cells) c.empty.ensures ∙ held_none limit cells;
-    }
+pub returns-clause-same : goal.returns-clause-same
+returns-clause-same g c = let none = held_none (g.B.Bank.limit c.args.below) (g.B.Bank.cells c.args.below) in cc

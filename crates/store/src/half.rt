@@ -1,0 +1,32 @@
+// The two words of a cell.
+ghost use Rattle.std.specs.Prelude.{◌≡◌};
+ghost use Rattle.store.specs.Halves.{word_of, change_to};
+
+use bank::{Cell, Change, Word};
+
+#[derive(Clone, Copy, PartialEq, Eq, Debug)]
+pub enum Half {
+    Car,
+    Cdr,
+}
+
+impl Half {
+    pub fn of(self, cell: Cell) -> Word
+        ensures { result ≡ word_of self cell }
+    {
+        match self {
+            Half::Car => cell.car,
+            Half::Cdr => cell.cdr,
+        }
+    }
+
+    // The change that puts a word there.
+    pub fn to(self, word: Word) -> Change
+        ensures { result ≡ change_to self word }
+    {
+        match self {
+            Half::Car => Change::Car(word),
+            Half::Cdr => Change::Cdr(word),
+        }
+    }
+}

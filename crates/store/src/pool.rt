@@ -1,0 +1,71 @@
+// The free list, and where the sweep stands: sweeping.
+ghost use Rattle.std.specs.Prelude.{◌≡◌, ◌-◌, min, false, length, if◌then◌else◌, nat_lt};
+ghost use Rattle.collector.specs.Turns.{is_reserved, treat, sweep, sweeps};
+ghost use Rattle.store.specs.Meaning.{ground_of};
+
+use bank::{Bank, Cell, Change, Word};
+
+#[derive(Clone, Copy, PartialEq, Eq, Debug)]
+pub struct Pool {
+    pub head: Word,
+    pub count: u32,
+    pub sweeper: u32,
+}
+
+impl Pool {
+    // Makes a cell the head of the free list.
+    fn release<B: Bank>(&mut self, bank: &mut B, n: u32)
+        ensures ground { ground_of B.cells bank.new self.new ≡ treat false false (B.limit bank.old) n (ground_of B.cells bank.old self.old) }
+        ensures limit { B.limit bank.new ≡ B.limit bank.old }
+    {
+        let _ = bank.set(n, Change::Car(self.head));
+        let _ = bank.set(n, Change::Cdr(Word::Reserved));
+        self.head = Word::Cell(n);
+        if self.count < 4096 {
+            self.count += 1;
+        }
+    }
+
+    // Takes the mark off cell n, leaves it where it is free, and releases it otherwise.
+    fn treat<B: Bank>(&mut self, bank: &mut B, n: u32, cell: Cell)
+        ensures ground { ground_of B.cells bank.new self.new ≡ treat cell.mark (is_reserved cell.cdr) (B.limit bank.old) n (ground_of B.cells bank.old self.old) }
+        ensures limit { B.limit bank.new ≡ B.limit bank.old }
+    {
+        match (cell.mark, cell.cdr) {
+            (true, _) => {
+                let _ = bank.set(n, Change::Mark(false));
+            }
+            (false, Word::Reserved) => {}
+            (false, _) => self.release(bank, n),
+        }
+    }
+
+    // Sweeps the cell at the sweeper; the count of cells swept, none past the last.
+    fn sweep<B: Bank>(&mut self, bank: &mut B) -> u32
+        ensures ground { ground_of B.cells bank.new self.new ≡ sweep (B.limit bank.old) (ground_of B.cells bank.old self.old) }
+        ensures swept { result ≡ (if nat_lt self.old.sweeper (length (B.cells bank.old)) then 1 else 0) }
+        ensures limit { B.limit bank.new ≡ B.limit bank.old }
+    {
+        let n = self.sweeper;
+        let Ok(cell) = bank.cell(n) else {
+            return 0;
+        };
+        self.treat(bank, n, cell);
+        self.sweeper += 1;
+        1
+    }
+
+    // The share of a sweep turn: up to k cells. The count of cells swept.
+    // Not one loop with `scans`: a step that is passed in would hide in its captures what it does to the bank.
+    pub fn sweeps<B: Bank>(&mut self, bank: &mut B, k: u8) -> u32
+        ensures ground { ground_of B.cells bank.new self.new ≡ sweeps (B.limit bank.old) k (ground_of B.cells bank.old self.old) }
+        ensures swept { result ≡ min k (length (B.cells bank.old) - self.old.sweeper) }
+        ensures limit { B.limit bank.new ≡ B.limit bank.old }
+    {
+        let mut swept = 0;
+        for _ in 0..k {
+            swept += self.sweep(bank);
+        }
+        swept
+    }
+}
