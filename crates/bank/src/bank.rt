@@ -22,7 +22,7 @@ pub trait Bank {
     fn cell(&self, n: u32) -> Result<Cell, BankFault>
         ensures { result ≡ asked (cells self.now) n };
 
-    // The cell n that the word may be put into, or the refusal that a setter gives.
+    // The cell n that the word may be put into, or the refusal that `set` gives.
     fn writable(&self, n: u32, word: Word) -> Result<Cell, BankFault>
         ensures { result ≡ writable (limit self.now) (cells self.now) n word }
     {

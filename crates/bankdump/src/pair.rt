@@ -1,18 +1,19 @@
-ghost use Rattle.std.specs.Prelude.{◌≡◌, ◌+◌, ◌*◌, ◌++◌, Some, codes, decimal};
+ghost use Rattle.std.specs.Prelude.{◌≡◌, ◌+◌, ◌*◌, ◌++◌, IfOk, Some, codes, decimal};
+ghost use Rattle.bankdump.specs.Pairs.{ReadsAs};
 
 use std::fmt;
 use std::num::ParseIntError;
 use std::str::FromStr;
 
 // The offset and the length of a zone, as the input writes them: any two of 16 bits, also where no track has the zone.
-#[derive(Clone, Copy)]
+#[derive(Clone, Copy, PartialEq, Eq, Debug)]
 pub struct ZonePair {
     offset: u16,
     length: u16,
 }
 
 // The text is no offset, plus sign and length.
-#[derive(Clone, Copy)]
+#[derive(Clone, Copy, PartialEq, Eq, Debug)]
 pub struct NotAPair;
 
 impl From<ParseIntError> for NotAPair {
@@ -23,6 +24,8 @@ impl From<ParseIntError> for NotAPair {
 
 impl FromStr for ZonePair {
     type Err = NotAPair;
+
+    ghost from_str_gives = { λ text r. IfOk r (ReadsAs text) };
 
     fn from_str(s: &str) -> Result<ZonePair, NotAPair> {
         let (offset, length) = s.split_once('+').ok_or(NotAPair)?;

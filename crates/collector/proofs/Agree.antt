@@ -36,7 +36,7 @@ mem-map f w (v ∷ vs) (inr m) = inr (mem-map f w vs m)
 
 -- A word that is renamed to a cell names one.
 was-cell : (f : ℕ → ℕ) (w : Word) (n : ℕ) → rename f w ≡ Word.Cell n → (x : ℕ) × (w ≡ Word.Cell x) × (f x ≡ n)
-was-cell f x1 n e = search rules
+was-cell f w n e = search rules
 
 mem-unmap : (f : ℕ → ℕ) (n : ℕ) (ws : List Word) → Mem (Word.Cell n) (map (rename f) ws) → (x : ℕ) × Mem (Word.Cell x) ws × (f x ≡ n)
 mem-unmap f n [] m = absurd m
@@ -118,7 +118,7 @@ module _ {V : Type 0} {f : ℕ → ℕ} {e : Endless} {s : State V} (g : Agree f
 
   -- What a register shows, and whether two hold the same.
   pub seen-agrees : (atoms : Atoms V) (w : Word) → seen atoms (rename f w) ≡ seen atoms w
-  seen-agrees atoms x1 = search rules
+  seen-agrees atoms w = search rules
 
   pub same-agrees : (v w : Word) → ((x : ℕ) → v ≡ Word.Cell x → ReachableIn e x) → ((x : ℕ) → w ≡ Word.Cell x → ReachableIn e x) → same_word (rename f v) (rename f w) ≡ same_word v w
-  same-agrees x0 w hv hw = search rules
+  same-agrees v w hv hw = search rules

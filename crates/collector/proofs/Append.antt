@@ -22,7 +22,7 @@ module _ (f : ℕ → ℕ) (x0 h : ℕ) where
   named-old x ne = search rules
 
   rename-old : (w : Word) → ((x : ℕ) → w ≡ Word.Cell x → x < x0) → rename (named-too f x0 h) w ≡ rename f w
-  rename-old x0 b = search rules
+  rename-old w b = search rules
 
   rename-all : (ws : List Word) → ((x : ℕ) → Mem (Word.Cell x) ws → x < x0) → map (rename (named-too f x0 h)) ws ≡ map (rename f) ws
   rename-all [] b = refl
@@ -54,7 +54,7 @@ module _ {V : Type 0} (f : ℕ → ℕ) (e : Endless) (s t : State V) (g : Agree
   old-pair x l = search get_or_append_left
 
   target : (x m : ℕ) (field : Pair → Word) → (m ≡ x0) ⊎ ReachableIn e m → field (pair_at e' m) ≡ Word.Cell x → (field (record { first = wa; second = wb }) ≡ Word.Cell x → ReachableIn e x) → (ReachableIn e m → field (pair_at e m) ≡ Word.Cell x → ReachableIn e x) → ReachableIn e x
-  target x m field x3 w new old = search (rules, new-pair, old-pair)
+  target x m field either w new old = search (rules, new-pair, old-pair)
 
   -- What the heap reaches now is the new cell or was reached before.
   pub reached-before : (x : ℕ) → ReachableIn e' x → (x ≡ x0) ⊎ ReachableIn e x

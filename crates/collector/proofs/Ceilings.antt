@@ -19,7 +19,7 @@ ceiling-shift X d k l = grind (arith, ceiling-least, ceiling-covers, times-mono)
 
 -- Turns that are all full but the last are as many as the quotient rounded up, or one.
 pub turns-bound : (t k X : ℕ) → 1 ≤ k → (t ≤ 1) ⊎ (k * (t - 1) < X) → t ≤ turns_for X k
-turns-bound t k x2 l x4 = search (rules, cases_lt, times-mono, ceiling-covers)
+turns-bound t k X l either = search (rules, cases_lt, times-mono, ceiling-covers)
 
 pub turns-mono : (k X Y : ℕ) → 1 ≤ k → X ≤ Y → turns_for X k ≤ turns_for Y k
 turns-mono k X Y l h = search rules
@@ -58,4 +58,4 @@ module _ (A k1 k2 M N F fr marks i p : ℕ) (some : 1 ≤ k2) (e : Enough A k1 k
       ]
 
   pub sweep-ends : p ≡ N → 1 + marks + i + M ≤ F + fr
-  sweep-ends q = search rules
+  sweep-ends q = let room = e.room in let t = last-turns in omega arith

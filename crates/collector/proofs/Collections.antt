@@ -11,7 +11,7 @@ use Rattle.collector.proofs.Still.{step-pace}
 
 module _ {V : Type 0} (P : Bool × Collection V → Type 0) where
   ended-each : (a b : Phase) (c : Collection V) (rest : List (Bool × Collection V)) → (b ≡ Phase.Idle → P (true, c)) → Each P rest → Each P (ended a b c rest)
-  ended-each x0 b c rest f h = search rules
+  ended-each a b c rest f h = search rules
 
   pub collections-each : ((c : Collection V) (s : State V) → Inv c s → Paced c s → P (false, c) × (s.phase ≡ Phase.Idle → P (true, c)))
       → (c : Collection V) (s : State V) (es : List (Event V)) → Inv c s → Paced c s → Each P (collections_from c s es)

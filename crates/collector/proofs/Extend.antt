@@ -1,5 +1,5 @@
 -- A run grows by one call at its end. Assumes nothing.
-use Rattle.std.proofs.Common.{◌≡◌, ℕ, List, [], ◌∷◌, ◌++◌, sym, refl, ap, ◌∙◌, subst, rules}
+use Rattle.std.proofs.Common.{◌≡◌, ℕ, List, [], ◌∷◌, ◌++◌, refl, rules}
 use Rattle.collector.specs.declared.call.Call.{Call}
 use Rattle.collector.specs.States.{Fixed, State, new}
 use Rattle.collector.specs.Outcomes.{Outcome}

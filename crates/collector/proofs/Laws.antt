@@ -1,5 +1,5 @@
 -- The laws of every run. Assumes nothing.
-use Rattle.std.proofs.Common.{◌≡◌, ℕ, ◌-◌, ◌≤◌, Bool, true, false, List, [], ◌∷◌, length, Some, None, Ok, Err, Option, sym, refl, ap, ◌∙◌, subst, inl, inr, arith, rules}
+use Rattle.std.proofs.Common.{◌≡◌, ℕ, ◌-◌, ◌≤◌, Bool, true, false, List, [], ◌∷◌, Some, None, Ok, Err, Option, sym, refl, ap, ◌∙◌, subst, inl, inr, arith, rules}
 use Rattle.std.proofs.lemmas.Bool.{cases_eq, both_ways}
 use Rattle.bank.specs.declared.word.Word.{Word}
 use Rattle.bank.specs.declared.word.Cell.{Cell}
@@ -7,20 +7,20 @@ use Rattle.collector.specs.declared.call.Call.{Call}
 use Rattle.collector.specs.declared.call.Answer.{Answer}
 use Rattle.collector.specs.declared.fault.StoreFault.{StoreFault}
 use Rattle.collector.specs.declared.phase.Phase.{Phase}
-use Rattle.collector.specs.Lists.{Distinct, Each, AtMost}
+use Rattle.collector.specs.Lists.{Each, AtMost}
 use Rattle.collector.specs.States.{Fixed, Atoms, State, at, size, new, roots}
 use Rattle.collector.specs.Turns.{turn, work}
-use Rattle.collector.specs.Outcomes.{Outcome, After, registers_of, absent, register, done}
+use Rattle.collector.specs.Outcomes.{Outcome, After, register}
 use Rattle.collector.specs.Calls.{replace_by, take, perform, checked}
 use Rattle.collector.specs.Endless.{Endless, start, feed}
 use Rattle.collector.specs.Reach.{Reachable, ReachableIn, Free}
 use Rattle.collector.specs.Runs.{Event, next, outcome, final, outcomes, calls_of, Keeps, Admissible, Collection, beginning, onward_in, onward}
-use Rattle.collector.specs.Laws.{Grounded, lacks_by, lacks, unless, fed_calls, Within, turns_for, Enough, NeverLacks, FreedExactly, Reclaims, EveryRunLawful, Safe, EveryStateSafe, Unharmed, RefusalsHarmless, Brief, CollectionsBrief}
+use Rattle.collector.specs.Laws.{Grounded, lacks_by, lacks, fed_calls, Within, turns_for, Enough, NeverLacks, FreedExactly, Reclaims, EveryRunLawful, Safe, EveryStateSafe, Unharmed, RefusalsHarmless, Brief, CollectionsBrief}
 use Rattle.collector.proofs.Sets.{few-below, each_at}
 use Rattle.collector.proofs.Chains.{listed-is}
 use Rattle.collector.proofs.Ceilings.{turns-bound}
 use Rattle.collector.proofs.Turn.{Used, live_now, free-is, in-sweep, turn-keeps}
-use Rattle.collector.proofs.Steps.{Field, car-field, cdr-field, replace-is, replaced-state, take-lacks, take-takes, register-sound, step_keeps}
+use Rattle.collector.proofs.Steps.{Field, car-field, cdr-field, replace-is, take-lacks, take-takes, register-sound, step_keeps}
 use Rattle.collector.proofs.Start.{new-keeps, linked-length}
 use Rattle.collector.proofs.Moves.{turn-moves, next-fixed, next-size}
 use Rattle.collector.proofs.Collections.{collections-each}
@@ -155,10 +155,7 @@ module _ {V : Type 0} {c : Collection V} {s : State V} (i : Inv c s) where
 
   spared-replace : (field : Cell → Word) (put : Word → Cell → Cell) → Field field put → (a b : ℕ) (w : Word) → register s.registers a ≡ w → Spared s (replace_by field put w a (register s.registers b) s)
   spared-replace field put f a b Word.Nil e = λ fault q l. refl
-  spared-replace field put f a b (Word.Cell n) e =
-      let is : replace_by field put (Word.Cell n) a (register s.registers b) s ≡ done (replaced-state f i n (register s.registers b)) =
-      ap (λ (v : Word). replace_by field put v a (register s.registers b) s) (sym e) ∙ replace-is f i a b n e (holds-live a n e) in
-      subst (Spared s) (sym is) (spared-ok s _ Answer.Done)
+  spared-replace field put f a b (Word.Cell n) e = rw (replace-is f i a b n (holds-live a n e)) (spared-ok s _ Answer.Done)
   spared-replace field put f a b (Word.Atom k) e = λ fault q l. refl
   spared-replace field put f a b Word.Reserved e = λ fault q l. refl
 

@@ -74,4 +74,4 @@ module _ (R F : ℕ → Type 0) (old : List Cell) where
 
     pub offer-marks : (limit : ℕ) (w : Word) (h : Heap) → Sound limit (Live R F 0 h.cells) w → length h.cells ≤ 4096 → Past R F (length h.cells)
         → Marking R F old hand popped h.cells h.stack → Offered h (offer w h) w
-    offer-marks limit x1 h s few past m = search (rules, grown-refl, offer_if-marks)
+    offer-marks limit w h s few past m = search (rules, grown-refl, offer_if-marks)

@@ -29,7 +29,7 @@ module _ {V : Type 0} {X : Type 0} (part : State V → X) where
   onward-part s e c q = search rules
 
 pub next-fixed : {V : Type 0} {c : Collection V} {s : State V} → Inv c s → (e : Event V) → (next s e).fixed ≡ s.fixed
-next-fixed {V} i e = search rules
+next-fixed {V = V} {c = c} {s = s} i e = sym (step_keeps i e).same-fixed ∙ onward-part (λ (t : State V). t.fixed) s e c i.same-fixed
 
 pub next-size : {V : Type 0} {c : Collection V} {s : State V} → Inv c s → (e : Event V) → size (next s e) ≡ size s
 next-size {V = V} {c = c} {s = s} i e = sym (step_keeps i e).same_size ∙ onward-part (λ (t : State V). size t) s e c i.same_size

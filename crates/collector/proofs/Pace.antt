@@ -46,7 +46,7 @@ pops-full (suc k) cs (m ∷ stack) e =
     ap suc (pops-full k h.cells h.stack e)
 
 pub pops-some : (k : ℕ) (cs : List Cell) (stack : List ℕ) → 1 ≤ k → is_empty stack ≡ false → 1 ≤ length (scanned k (record { cells = cs; stack = stack }))
-pops-some x0 cs stack l e = search rules
+pops-some k cs stack l e = search rules
 
 module _ {V : Type 0} {c : Collection V} {s : State V} (i : Inv c s) (p : Paced c s) where
   module _ (marking : s.phase ≡ Phase.Mark) where

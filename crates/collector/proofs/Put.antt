@@ -1,11 +1,11 @@
 -- One cell is changed to one that holds sound words: what that keeps of the invariant. Assumes nothing.
-use Rattle.std.proofs.Common.{◌≡◌, ℕ, ◌<◌, ◌≤◌, true, false, ◌⊎◌, List, [], length, subst, inl, inr, arith, rules}
+use Rattle.std.proofs.Common.{◌≡◌, ℕ, ◌<◌, ◌≤◌, true, false, ◌⊎◌, List, [], length, subst, arith, rules}
 use Rattle.std.proofs.lemmas.Bool.{cases_eq}
 use Rattle.bank.specs.declared.word.Word.{Word}
 use Rattle.bank.specs.declared.word.Cell.{Cell}
 use Rattle.collector.specs.States.{at}
 use Rattle.collector.specs.Calls.{car_of, cdr_of}
-use Rattle.collector.proofs.Same.{sound-map, sounds-map, done-marks}
+use Rattle.collector.proofs.Same.{sounds-map, done-marks}
 use Rattle.collector.proofs.Invariant.{Vacant, Sound, Closed, Live, Done, Kept, Marking, Sweeping}
 
 pub record Put (limit : ℕ) (Q : ℕ → Type 0) (cs ds : List Cell) (n : ℕ) : Type 0 where
@@ -30,11 +30,7 @@ module _ {limit p n : ℕ} {R F : ℕ → Type 0} {cs ds : List Cell} (t : Put l
   -- A field of the changed cell, and of the others.
   field-sound : (field : Cell → Word) → Sound limit (Live R F p cs) (field (at ds n)) → ((k : ℕ) → Live R F p cs k → Sound limit (Live R F p cs) (field (at cs k)))
       → (k : ℕ) → Live R F p ds k → Sound limit (Live R F p ds) (field (at ds k))
-  field-sound field new others k l =
-      sound-map limit (Live R F p cs) (Live R F p ds) (put-to p) (field (at ds k)) (elim (cases_eq k n) [
-        | inl e ↦ rw e new
-        | inr ne ↦ rw (t.other k ne) (others k (put-back p k ne l))
-      ])
+  field-sound field new others k l = search rules
 
   pub put-closed : {ws : List Word} → Closed limit (Live R F p cs) cs ws → Closed limit (Live R F p ds) ds ws
   put-closed {ws} c = record {

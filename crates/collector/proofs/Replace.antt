@@ -1,9 +1,10 @@
 -- A word of a live cell is replaced: what that keeps of the invariant. Assumes nothing.
-use Rattle.std.proofs.Common.{◌≡◌, ℕ, ◌⊎◌, List, inl, arith, rules}
+use Rattle.std.proofs.Common.{◌≡◌, ℕ, ◌⊎◌, List, rules, ap}
 use Rattle.bank.specs.Banks.{changed}
 use Rattle.bank.specs.declared.word.Word.{Word}
 use Rattle.bank.specs.declared.word.Cell.{Cell}
 use Rattle.collector.specs.States.{Pool, at}
+use Rattle.collector.specs.Calls.{car_of}
 use Rattle.collector.proofs.Cells.{changed-here, reads_same}
 use Rattle.collector.proofs.Chains.{links-on}
 use Rattle.collector.proofs.Put.{Put, vacant-was, put-to, put-closed, put-sweeping, Marks}
@@ -31,14 +32,14 @@ module _ {R F : ℕ → Type 0} {popped freed : List ℕ} {limit : ℕ} {cs : Li
   mark-same k = reads_same (λ c. c.mark) f t.unmoved cs n k
 
   vacant-is : (k : ℕ) → Vacant cs k → Vacant ds k
-  vacant-is k v = grind (arith, put.other)
+  vacant-is k v = rw (put.other k (λ e. t.live.used (rw e at v))) v
 
   pub replaced-core : Core R F popped freed limit ds pool ws
   replaced-core = record {
     closed = put-closed put t.core.closed;
     fs = t.core.fs;
     listed = record {
-      links = links-on cs ds pool.head t.core.fs (λ k i. grind (arith, put.other, t.core.listed.vacant)) t.core.listed.links;
+      links = links-on cs ds pool.head t.core.fs (λ k i. ap car_of (put.other k (λ e. t.live.used (rw e at (t.core.listed.vacant k i))))) t.core.listed.links;
       distinct = t.core.listed.distinct;
       counted = t.core.listed.counted;
       vacant = λ k i. search (vacant-is, t.core.listed.vacant);
@@ -54,11 +55,4 @@ module _ {R F : ℕ → Type 0} {popped freed : List ℕ} {limit : ℕ} {cs : Li
 
   -- A field that is replaced had its old word offered.
   pub replaced-marks : pool.sweeper ≡ 0 → ((f (at cs n)).car ≡ (at cs n).car) ⊎ Done cs (at cs n).car → ((f (at cs n)).cdr ≡ (at cs n).cdr) ⊎ Done cs (at cs n).cdr → Marks put
-  replaced-marks z a d = record {
-    live = search (rules, put-to put 0 n, t.live);
-    grows = λ k m. search (rules, mark-same);
-    same = λ k r. mark-same k;
-    new = inl t.live.used;
-    car = λ r. search (rules, here);
-    cdr = λ r. search (rules, here);
-  }
+  replaced-marks z a d = search (rules, t.live, put-to put, mark-same, here)

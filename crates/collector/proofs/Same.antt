@@ -41,10 +41,10 @@ pub dones-marks : (cs ds : List Cell) → ((n : ℕ) → (at cs n).mark ≡ true
 dones-marks cs ds f ws h = search (each_map, done-marks)
 
 pub done-grown : (cs ds : List Cell) → Grown cs ds → (w : Word) → Done cs w → Done ds w
-done-grown cs ds g x3 d = search rules
+done-grown cs ds g w d = search rules
 
 pub sound-map : (limit : ℕ) (P Q : ℕ → Type 0) → ((n : ℕ) → P n → Q n) → (w : Word) → Sound limit P w → Sound limit Q w
-sound-map limit x1 x2 f x4 h = search rules
+sound-map limit P Q f w h = search rules
 
 pub sounds-map : (limit : ℕ) (P Q : ℕ → Type 0) → ((n : ℕ) → P n → Q n) → (ws : List Word) → Each (Sound limit P) ws → Each (Sound limit Q) ws
 sounds-map limit P Q f ws h = search (each_map, sound-map)

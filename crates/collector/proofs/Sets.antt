@@ -58,7 +58,7 @@ module _ {A : Type 0} where
   mem-set x y (z ∷ zs) (suc i) (inr m) = search (rules, mem-set x y zs i m)
 
   pub empty-is : (xs : List A) → is_empty xs ≡ true → xs ≡ []
-  empty-is x0 e = search rules
+  empty-is xs e = search rules
 
 -- A list without one of its members.
 remove : (n : ℕ) (xs : List ℕ) → Mem n xs → (ys : List ℕ) × (length xs ≡ suc (length ys)) × ((x : ℕ) → Mem x xs → (x ≡ n → ⊥) → Mem x ys)

@@ -1,29 +1,27 @@
 -- Each call comes in the store to what it comes to in the endless heap. Assumes nothing.
-use Rattle.std.proofs.Common.{◌≡◌, ℕ, Bool, true, false, leb, ◌⊎◌, List, [], ◌∷◌, map, length, Some, None, Ok, Option, Result, sym, refl, ap, ◌∙◌, subst, inl, inr, arith, rules}
+use Rattle.std.proofs.Common.{◌≡◌, ℕ, Bool, true, false, leb, ◌⊎◌, List, [], ◌∷◌, map, length, Some, None, Ok, Option, sym, refl, ap, ◌∙◌, subst, inl, inr, arith, rules}
 use Rattle.std.proofs.lemmas.Bool.{cases_eq}
 use Rattle.bank.specs.Words.{with_car, with_cdr}
 use Rattle.bank.specs.Banks.{changed}
-use Rattle.bank.specs.declared.fault.BankFault.{BankFault}
 use Rattle.bank.specs.declared.word.Word.{Word}
 use Rattle.bank.specs.declared.word.Cell.{Cell}
 use Rattle.collector.specs.declared.call.Call.{Call}
 use Rattle.collector.specs.declared.call.Answer.{Answer}
 use Rattle.collector.specs.declared.call.Seen.{Seen}
-use Rattle.collector.specs.Lists.{Mem}
 use Rattle.collector.specs.States.{Fixed, State, at, new}
 use Rattle.collector.specs.Turns.{turn, work}
 use Rattle.collector.specs.Outcomes.{Outcome, After, done, answer, registers_of, absent, register, seen, same_word}
-use Rattle.collector.specs.Calls.{load_if, take, read_from, read_by, replace_by, car_of, cdr_of, perform, checked, with_register}
+use Rattle.collector.specs.Calls.{load_if, take, read_by, replace_by, car_of, cdr_of, perform, checked, with_register}
 use Rattle.collector.specs.Endless.{Pair, Endless, start, pair_at, named, first_word, second_word, with_first, with_second, feed, load_if as endless-load_if, read as endless-read, replace as endless-replace, perform as endless-perform, checked as endless-checked}
 use Rattle.collector.specs.Reach.{root, via, Reachable, ReachableIn}
-use Rattle.collector.specs.Runs.{Event, next, outcome, outcomes, calls_of, Collection, beginning, onward_in, onward}
+use Rattle.collector.specs.Runs.{Event, next, outcome, outcomes, calls_of, Collection, beginning, onward}
 use Rattle.collector.specs.Laws.{Grounded, lacks, unless, remaining, fed_calls, endless_outcomes, without_work, AnswersEqual}
-use Rattle.collector.proofs.Cells.{changed-here, changed-other}
-use Rattle.collector.proofs.Take.{filled-here, filled-other}
+use Rattle.collector.proofs.Cells.{changed-here}
+use Rattle.collector.proofs.Take.{filled-here}
 use Rattle.collector.proofs.Turn.{Used, live_now, turn-keeps}
-use Rattle.collector.proofs.Steps.{Field, car-field, cdr-field, take-lacks, take-takes, taken-state, asked_is, replace-is, replaced-state, offered-heap, kept, step_keeps}
+use Rattle.collector.proofs.Steps.{Field, car-field, cdr-field, take-takes, taken-state, asked_is, replace-is, replaced-state, offered-heap, kept, step_keeps}
 use Rattle.collector.proofs.Start.{new-keeps}
-use Rattle.collector.proofs.Moves.{Moved, turn-moves, next-fixed}
+use Rattle.collector.proofs.Moves.{Moved, turn-moves}
 use Rattle.collector.proofs.Agree.{rename, Agree, register-agrees, register-root, store-reaches, agree-named, seen-agrees, same-agrees}
 use Rattle.collector.proofs.Append.{named-too, Fresh, agree-appended}
 use Rattle.collector.proofs.Rewrite.{Alike, Twins, car-twins, cdr-twins, agree-rewritten}
@@ -64,8 +62,7 @@ module _ {V : Type 0} {f : ℕ → ℕ} {e : Endless} {c : Collection V} {s : St
   read_meets field part same on r a (Word.Cell x) q =
       let h : ReachableIn e x = names a x q in
       let within = (live_now i (f x) (store-reaches g x h)).within in
-      subst (λ (o : Result Cell BankFault). Meets f e (read_from field o r s) (endless-read part (Word.Cell x) r a e)) (sym (asked_is i (f x) within))
-      (inr (refl, refl, (f, subst (λ (w : Word). Agree f (named r (part (pair_at e x)) e) (with_register r w s)) (sym (same x h)) (agree-named g r (part (pair_at e x)) (λ y v. on x y h v)))))
+      rw (asked_is i (f x) within, same x h) (inr (refl, refl, (f, agree-named g r (part (pair_at e x)) (λ y v. on x y h v))))
   read_meets field part same on r a (Word.Atom k) q = inr (refl, refl, (f, g))
   read_meets field part same on r a Word.Reserved q = inr (refl, refl, (f, g))
 
@@ -104,12 +101,8 @@ module _ {V : Type 0} {f : ℕ → ℕ} {e : Endless} {c : Collection V} {s : St
         let live : Used i (f x) = live_now i (f x) (store-reaches g x h) in
         let wb : Word = register s.registers b in
         let wx : Word = register e.registers b in
-        let holds : register s.registers a ≡ Word.Cell (f x) = register-agrees g a ∙ ap (rename f) q in
-        let is : replace_by field put (Word.Cell (f x)) a wb s ≡ done (replaced-state fd i (f x) wb) =
-        ap (λ (v : Word). replace_by field put v a wb s) (sym holds) ∙ replace-is fd i a b (f x) holds live in
-        let word : wb ≡ rename f wx = register-agrees g b in
-        let there = subst (λ (v : Word). ((at (replaced-state fd i (f x) wb).heap.cells (f x)).car ≡ (put v (at s.heap.cells (f x))).car) × ((at (replaced-state fd i (f x) wb).heap.cells (f x)).cdr ≡ (put v (at s.heap.cells (f x))).cdr)) word (both-here (f x) live wb) in
-        subst (λ (o : After (State V) V). Meets f e o (endless-replace (put_pair wx) (Word.Cell x) a e)) (sym is)
+        let there = subst (λ (v : Word). ((at (replaced-state fd i (f x) wb).heap.cells (f x)).car ≡ (put v (at s.heap.cells (f x))).car) × ((at (replaced-state fd i (f x) wb).heap.cells (f x)).cdr ≡ (put v (at s.heap.cells (f x))).cdr)) (register-agrees g b) (both-here (f x) live wb) in
+        rw (replace-is fd i a b (f x) live)
         (inr (refl, refl, (f, agree-rewritten put put_pair twins f e s (replaced-state fd i (f x) wb) g x wx h (λ y v. names b y v) refl there (both-elsewhere (f x) live wb))))
     replace_meets a b (Word.Atom k) q = inr (refl, refl, (f, g))
     replace_meets a b Word.Reserved q = inr (refl, refl, (f, g))
@@ -134,8 +127,7 @@ module _ {V : Type 0} {f : ℕ → ℕ} {e : Endless} {c : Collection V} {s : St
             here = (search (rules, here, register-agrees, g, a, b));
             elsewhere = search rules;
           } in
-          subst (λ (o : After (State V) V). Meets f e o (endless-perform s.fixed.atoms e (Call.Cons r a b))) (sym t.3)
-          (inr (refl, refl, (named-too f (length e.pairs) h, agree-appended f e s (taken-state r h (register s.registers a) (register s.registers b) s) g h r (register e.registers a) (register e.registers b) fresh (names a) (names b) refl)))
+          rw t.3 (inr (refl, refl, (named-too f (length e.pairs) h, agree-appended f e s (taken-state r h (register s.registers a) (register s.registers b) s) g h r (register e.registers a) (register e.registers b) fresh (names a) (names b) refl)))
 
 perform-meets : {V : Type 0} {f : ℕ → ℕ} {e : Endless} {c : Collection V} {s : State V} → Inv c s → Agree f e s → (says : Bool) (k : Call V) → Meets f e (perform says s k) (endless-perform s.fixed.atoms e k)
 perform-meets i g says (Call.Load r v) = search load-meets
@@ -146,16 +138,16 @@ perform-meets {f = f} {e = e} {s = s} i g says (Call.Cons r a b) =
     subst (λ atoms. Meets f e (take (work s) r a b (turn says s)) (endless-perform atoms e (Call.Cons r a b))) (ap (λ fx. fx.atoms) m.fixed)
     (take_meets (turn-keeps says i) (agree-moved g (moved-reachable i m)) (work s) r a b)
 perform-meets {f = f} {e = e} {s = s} i g says (Call.Car r a) =
-    subst (λ (w : Word). Meets f e (read_by car_of w r a s) (endless-read first_word (register e.registers a) r a e)) (sym (register-agrees g a))
+    rw (register-agrees g a)
     (read_meets i g car_of first_word g.firsts (λ x y h v. via h (inl v)) r a (register e.registers a) refl)
 perform-meets {f = f} {e = e} {s = s} i g says (Call.Cdr r a) =
-    subst (λ (w : Word). Meets f e (read_by cdr_of w r a s) (endless-read second_word (register e.registers a) r a e)) (sym (register-agrees g a))
+    rw (register-agrees g a)
     (read_meets i g cdr_of second_word g.seconds (λ x y h v. via h (inr v)) r a (register e.registers a) refl)
 perform-meets {f = f} {e = e} {s = s} i g says (Call.Rplaca a b) =
-    subst (λ (w : Word). Meets f e (replace_by car_of with_car w a (register s.registers b) s) (endless-replace (with_first (register e.registers b)) (register e.registers a) a e)) (sym (register-agrees g a))
+    rw (register-agrees g a)
     (replace_meets i g car_of with_car car-field with_first car-twins a b (register e.registers a) refl)
 perform-meets {f = f} {e = e} {s = s} i g says (Call.Rplacd a b) =
-    subst (λ (w : Word). Meets f e (replace_by cdr_of with_cdr w a (register s.registers b) s) (endless-replace (with_second (register e.registers b)) (register e.registers a) a e)) (sym (register-agrees g a))
+    rw (register-agrees g a)
     (replace_meets i g cdr_of with_cdr cdr-field with_second cdr-twins a b (register e.registers a) refl)
 perform-meets {V = V} {f = f} {e = e} {s = s} i g says (Call.Look r) =
     inr (refl, ap (λ (x : Seen V). Ok (Answer.Saw x)) (ap (seen s.fixed.atoms) (register-agrees g r) ∙ seen-agrees g s.fixed.atoms (register e.registers r)), (f, g))

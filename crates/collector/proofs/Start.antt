@@ -59,13 +59,7 @@ module _ {V : Type 0} (fixed : Fixed V) (N : ℕ) (grounded : Grounded fixed N) 
   vacant-all n l = search (rules, linked-at 0 N n, len)
 
   pub listed-new : Listed cs (first_word 0 N) N (range_with_len 0 N)
-  listed-new = record {
-    links = links-new N 0 N (omega arith);
-    distinct = range-distinct 0 N;
-    counted = length-range_with_len 0 N;
-    vacant = λ n m. let b = (range-only 0 N n m).1 in search (rules, vacant-all, len);
-    only = λ n v. let b = reserved-within cs n v in range_all 0 N n (omega arith) (omega (arith, len));
-  }
+  listed-new = search (rules, links-new, range-distinct, length-range_with_len, range-only, vacant-all, len, reserved-within, range_all)
 
   free_all : (n : ℕ) → n < N → Free s n
   free_all n l = rw (listed-is cs (first_word 0 N) N (range_with_len 0 N) listed-new) (range_all 0 N n (omega arith) (omega arith))

@@ -1,31 +1,31 @@
 -- Every call keeps the invariant; and what each call comes to in a state that has it. Assumes nothing.
-use Rattle.std.proofs.Common.{◌≡◌, ℕ, ◌<◌, ◌≤◌, Bool, true, false, leb, ◌⊎◌, List, [], ◌∷◌, length, Some, None, Ok, Option, Result, sym, refl, ap, ◌∙◌, subst, inl, inr, arith, rules}
+use Rattle.std.proofs.Common.{◌≡◌, ℕ, ◌<◌, ◌≤◌, Bool, true, false, leb, ◌⊎◌, List, [], ◌∷◌, length, Some, None, Ok, Option, sym, refl, subst, inl, inr, arith, rules}
 use Rattle.std.proofs.lemmas.List.{get_or_default}
 use Rattle.std.proofs.lemmas.Bool.{cases_eq, ne_eqb, le-leb, lt-ltb, leb-true}
 use Rattle.bank.specs.Words.{number_of, with_car, with_cdr}
 use Rattle.bank.specs.Banks.{asked, changed}
-use Rattle.bank.specs.declared.fault.BankFault.{BankFault}
 use Rattle.bank.specs.declared.word.Word.{Word}
 use Rattle.bank.specs.declared.word.Cell.{Cell}
 use Rattle.collector.specs.declared.call.Call.{Call}
 use Rattle.collector.specs.declared.call.Answer.{Answer}
 use Rattle.collector.specs.declared.fault.StoreFault.{StoreFault}
 use Rattle.collector.specs.declared.phase.Phase.{Phase}
+use Rattle.collector.specs.Lists.{Mem}
 use Rattle.collector.specs.States.{Heap, State, at, roots}
 use Rattle.collector.specs.Turns.{offer, work}
-use Rattle.collector.specs.Outcomes.{After, refuse, done, answer, register}
-use Rattle.collector.specs.Calls.{with_register, with_heap, with_pool, with_cells, load_if, unlinked, take_if, take_from, take, read_from, read_by, offer_in, write, replace_from, replace_by, replace, car_of, cdr_of, perform, checked}
+use Rattle.collector.specs.Outcomes.{refuse, done, answer, register}
+use Rattle.collector.specs.Calls.{with_register, with_heap, with_pool, with_cells, load_if, unlinked, take, read_by, offer_in, write, replace_by, car_of, cdr_of, perform, checked}
 use Rattle.collector.specs.Reach.{Reachable, Free}
 use Rattle.collector.specs.Runs.{Event, next, Collection, onward_if, onward}
-use Rattle.collector.specs.Laws.{Grounded}
-use Rattle.collector.proofs.Sets.{each-get_or, each_set, each_map}
-use Rattle.collector.proofs.Same.{dones-marks, Grown, done-grown, core-same, live_same, sound-map}
+use Rattle.collector.proofs.Cells.{reserved-within}
+use Rattle.collector.proofs.Sets.{each-get_or, each_set}
+use Rattle.collector.proofs.Same.{dones-marks, Grown, core-same, live_same, sound-map}
 use Rattle.collector.proofs.Mark.{offer-marks}
-use Rattle.collector.proofs.Take.{filled-plain, filled_is, filling-is, first-free, Taking, within-h, put as taken-put, taken-core, taken-sweeping, taken-marks}
+use Rattle.collector.proofs.Take.{filled-plain, filled_is, filling-is, first-free, Taking, put as taken-put, taken-core, taken-sweeping, taken-marks}
 use Rattle.collector.proofs.Replace.{Replacing, put as replaced-put, replaced-core, replaced-sweeping, replaced-marks}
 use Rattle.collector.proofs.Put.{Put, Marks, put-marking}
 use Rattle.collector.proofs.Turn.{Used, in-mark, turn-keeps}
-use Rattle.collector.proofs.Invariant.{Sound, Listed, Live, Done, Sweeping, Phased, Inv}
+use Rattle.collector.proofs.Invariant.{Sound, Live, Done, Sweeping, Phased, Inv}
 
 -- The state after a cell is taken.
 abbrev pub taken-state : {V : Type 0} → ℕ → ℕ → Word → Word → State V → State V
@@ -58,26 +58,19 @@ module _ {V : Type 0} {c : Collection V} {s : State V} (i : Inv c s) where
   pub take-lacks : (work r a b : ℕ) → s.pool.count ≡ 0 → take work r a b s ≡ refuse s (StoreFault.NoFreeCell work)
   take-lacks work r a b e = search
 
-  pub take-takes : (work r a b : ℕ) → (s.pool.count ≡ 0 → ⊥)
-      → (h : ℕ) × (rest : List ℕ) × (i.core.fs ≡ h ∷ rest) × (take work r a b s ≡ answer (taken-state r h (register s.registers a) (register s.registers b) s) (Answer.Worked work))
-  take-takes work r a b ne =
+  take-is : (turns r a b h : ℕ) → (s.pool.count ≡ 0 → ⊥) → s.pool.head ≡ Word.Cell h → h < length cs
+      → take turns r a b s ≡ answer (taken-state r h (register s.registers a) (register s.registers b) s) (Answer.Worked turns)
+  take-is turns r a b h ne e within =
+      let la = sound-limit (register s.registers a) (register-sound a) in
+      let lb = sound-limit (register s.registers b) (register-sound b) in
+      rw (ne_eqb s.pool.count 0 ne, e, filling-is L cs h (register s.registers a) (register s.registers b) within la lb, filled_is L cs h (register s.registers a) (register s.registers b) (leb s.pool.sweeper h) la lb)
+
+  pub take-takes : (turns r a b : ℕ) → (s.pool.count ≡ 0 → ⊥)
+      → (h : ℕ) × (rest : List ℕ) × (i.core.fs ≡ h ∷ rest) × (take turns r a b s ≡ answer (taken-state r h (register s.registers a) (register s.registers b) s) (Answer.Worked turns))
+  take-takes turns r a b ne =
       let f = first-free cs s.pool.head s.pool.count i.core.fs i.core.listed ne in
-      let h : ℕ = f.0 in
-      let wa : Word = register s.registers a in
-      let wb : Word = register s.registers b in
-      let la : number_of wa ≤ L = sound-limit wa (register-sound a) in
-      let lb : number_of wb ≤ L = sound-limit wb (register-sound b) in
-      let listed : Listed cs s.pool.head s.pool.count (h ∷ f.1) = search rules in
-      let taking : Taking R F c.scanned_cells c.freed_cells L cs s.pool s.registers h f.1 wa wb = record { core = i.core; listed = listed; first = register-sound a; second = register-sound b } in
-      let within : h < length cs = within-h taking in (
-        h,
-        f.1,
-        f.2,
-        ap (λ (t : Bool). take_from t s.pool.head work r wa wb s) (ne_eqb s.pool.count 0 ne)
-            ∙ ap (λ (w : Word). take_from false w work r wa wb s) f.3
-            ∙ ap (λ (o : Result (Unit {0}) BankFault). take_if o work r h wa wb s) (filling-is L cs h wa wb within la lb)
-            ∙ ap (λ (ds : List Cell). answer (with_register r (Word.Cell h) (with_pool (unlinked h s) (with_cells ds s))) (Answer.Worked work)) (filled_is L cs h wa wb (leb s.pool.sweeper h) la lb),
-      )
+      let free : Mem f.0 i.core.fs = subst (λ (fs : List ℕ). Mem f.0 fs) (sym f.2) (inl refl) in
+      (f.0, f.1, f.2, take-is turns r a b f.0 ne f.3 (reserved-within cs f.0 (i.core.listed.vacant f.0 free)))
 
   -- Where the sweep and the marks stand after a cell is changed.
   put-phased : (ds : List Cell) (n : ℕ) (t : Put L (Used i) cs ds n) → ((st : List ℕ) → Sweeping R F s.pool.sweeper c.scanned_cells cs st → Sweeping R F s.pool.sweeper c.scanned_cells ds st)
@@ -118,18 +111,8 @@ module _ {V : Type 0} {c : Collection V} {s : State V} (i : Inv c s) where
       let p = in-mark i e in
       let live : Sound L (Live R F 0 cs) w = search rules in
       let o = offer-marks R F c.began.heap.cells [] c.scanned_cells L w s.heap live i.grounded.few i.core.past p.1 in
-      let k : Heap = offer w s.heap in
-      record {
-        inv = record {
-          grounded = search rules;
-          core = search (rules, core-same, s.pool, o.grown.same, i.core);
-          phased = search (rules, e, p.0, o.marking, each_map, done-grown, o.grown, p.2);
-          same_size = search rules;
-          same-fixed = i.same-fixed;
-        };
-        grown = o.grown;
-        offered = λ q. o.done;
-      }
+      let d = dones-marks cs (offer w s.heap).cells o.grown.marks (roots c.began) p.2 in
+      record { inv = search (rules, core-same); grown = o.grown; offered = λ q. o.done }
   offer-kept-in Phase.Sweep e w h = search rules
 
   pub offer-kept : (w : Word) → Sound L (Used i) w → Offer-kept w (offer_in s.phase w s.heap)
@@ -186,7 +169,7 @@ module _ {V : Type 0} {field : Cell → Word} {put : Word → Cell → Cell} (f 
     now = with_heap (offered-heap n) s
 
     still : (k : ℕ) → Used i k → Used kept.inv k
-    still = search (rules, live_same, kept)
+    still = live_same (Reachable c.began) (Free c.began) s.pool.sweeper s.heap.cells (offered-heap n).cells kept.grown.same
 
     module _ (w : Word) (sw : Sound lim (Used i) w) where
       new-sound : Sound lim (Used kept.inv) w
@@ -196,7 +179,7 @@ module _ {V : Type 0} {field : Cell → Word} {put : Word → Cell → Cell} (f 
       cell = at (offered-heap n).cells n
 
       one_of : (x y z : Word) → (x ≡ y) ⊎ (x ≡ z) → Sound lim (Used kept.inv) y → Sound lim (Used kept.inv) z → Sound lim (Used kept.inv) x
-      one_of x y z x3 a b = search rules
+      one_of x y z either a b = search rules
 
       replacing : Replacing (Reachable c.began) (Free c.began) c.scanned_cells c.freed_cells lim (offered-heap n).cells s.pool s.registers n (put w)
       replacing = search (rules, kept, still, one_of, new-sound)
@@ -212,12 +195,10 @@ module _ {V : Type 0} {field : Cell → Word} {put : Word → Cell → Cell} (f 
           (was-offered cdr_of (kept.grown.same.cdrs n) f.cdr-kept)
 
   -- What a replacement comes to.
-  pub replace-is : (a b n : ℕ) → register s.registers a ≡ Word.Cell n → Used i n → replace field put a b s ≡ done (replaced-state n (register s.registers b))
-  replace-is a b n e live =
-      let w : Word = register s.registers b in
-      ap (λ (v : Word). replace_by field put v a w s) e
-      ∙ ap (λ (o : Result Cell BankFault). replace_from field put o n w s) (asked_is i n live.within)
-      ∙ write-is put n w (with_heap (offered-heap n) s) (let l = live.within in let q = (kept n live).grown.same.len in omega arith) (sound-limit i w (register-sound i b))
+  pub replace-is : (a b n : ℕ) → Used i n → replace_by field put (Word.Cell n) a (register s.registers b) s ≡ done (replaced-state n (register s.registers b))
+  replace-is a b n live =
+      rw (asked_is i n live.within)
+      (write-is put n (register s.registers b) (with_heap (offered-heap n) s) (let l = live.within in let q = (kept n live).grown.same.len in omega arith) (sound-limit i (register s.registers b) (register-sound i b)))
 
 -- Each call keeps the invariant.
 module _ {V : Type 0} {c : Collection V} {s : State V} (i : Inv c s) where
@@ -230,18 +211,13 @@ module _ {V : Type 0} {c : Collection V} {s : State V} (i : Inv c s) where
 
   read_keeps : (field : Cell → Word) → ((n : ℕ) → Used i n → Sound s.fixed.atoms.limit (Used i) (field (at s.heap.cells n))) → (r a : ℕ) (w : Word) → register s.registers a ≡ w → Inv c (read_by field w r a s).state
   read_keeps field sound r a Word.Nil e = i
-  read_keeps field sound r a (Word.Cell n) e =
-      subst (λ (o : Result Cell BankFault). Inv c (read_from field o r s).state) (sym (asked_is i n (names a n e).within)) (register-keeps i r (field (at s.heap.cells n)) (sound n (names a n e)))
+  read_keeps field sound r a (Word.Cell n) e = rw (asked_is i n (names a n e).within) (register-keeps i r (field (at s.heap.cells n)) (sound n (names a n e)))
   read_keeps field sound r a (Word.Atom k) e = i
   read_keeps field sound r a Word.Reserved e = i
 
   replace-keeps : (field : Cell → Word) (put : Word → Cell → Cell) → Field field put → (a b : ℕ) (w : Word) → register s.registers a ≡ w → Inv c (replace_by field put w a (register s.registers b) s).state
   replace-keeps field put f a b Word.Nil e = i
-  replace-keeps field put f a b (Word.Cell n) e =
-      let is = replace-is f i a b n e (names a n e) in
-      let at-cell : replace_by field put (Word.Cell n) a (register s.registers b) s ≡ done (replaced-state f i n (register s.registers b)) =
-      (search rules) in
-      subst (λ (o : After (State V) V). Inv c o.state) (sym at-cell) (replaced-keeps f i n (names a n e) (register s.registers b) (register-sound i b))
+  replace-keeps field put f a b (Word.Cell n) e = rw (replace-is f i a b n (names a n e)) (replaced-keeps f i n (names a n e) (register s.registers b) (register-sound i b))
   replace-keeps field put f a b (Word.Atom k) e = i
   replace-keeps field put f a b Word.Reserved e = i
 
@@ -250,7 +226,7 @@ take-keeps {V = V} {c = c} {s = s} i work r a b =
     elim (cases_eq s.pool.count 0) [
       | inl e ↦ search rules
       | inr ne ↦ let t = take-takes i work r a b ne in
-          subst (λ (o : After (State V) V). Inv c o.state) (sym t.3) (taken-keeps i t.0 t.1 t.2 (register s.registers a) (register s.registers b) (register-sound i a) (register-sound i b) r)
+          rw t.3 (taken-keeps i t.0 t.1 t.2 (register s.registers a) (register s.registers b) (register-sound i a) (register-sound i b) r)
     ]
 
 pub perform-keeps : {V : Type 0} {c : Collection V} {s : State V} → Inv c s → (says : Bool) (k : Call V) → Inv (onward_if None k says s c) (perform says s k).state

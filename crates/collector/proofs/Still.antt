@@ -1,5 +1,5 @@
 -- What the calls leave alone besides the turn. Assumes nothing.
-use Rattle.std.proofs.Common.{◌≡◌, ℕ, ◌-◌, Bool, true, false, leb, Some, None, Option, sym, refl, ap, ◌∙◌, subst, inl, inr, rules}
+use Rattle.std.proofs.Common.{◌≡◌, ℕ, ◌-◌, Bool, true, false, leb, Some, None, Option, sym, refl, subst, inl, inr, rules}
 use Rattle.std.proofs.lemmas.Bool.{cases_eq}
 use Rattle.bank.specs.Words.{with_car, with_cdr}
 use Rattle.bank.specs.declared.word.Word.{Word}
@@ -13,7 +13,7 @@ use Rattle.collector.specs.Calls.{load_if, read_by, replace_by, take, car_of, cd
 use Rattle.collector.specs.Runs.{Event, next, outcome, Collection, onward_in, onward_if, onward}
 use Rattle.collector.specs.Laws.{lacks}
 use Rattle.collector.proofs.Turn.{turn-keeps}
-use Rattle.collector.proofs.Steps.{take-lacks, take-takes}
+use Rattle.collector.proofs.Steps.{take-takes}
 use Rattle.collector.proofs.Pace.{Paced, paced-calm, turn-pace}
 use Rattle.collector.proofs.Invariant.{Inv}
 
@@ -31,10 +31,10 @@ module _ {V : Type 0} (s : State V) where
   still-load false i code = search
 
   still_read : (field : Cell → Word) (w : Word) (i a : ℕ) → Still s (read_by field w i a s)
-  still_read field x1 i a = search rules
+  still_read field w i a = search rules
 
   still-replace : (field : Cell → Word) (put : Word → Cell → Cell) (v : Word) (a : ℕ) (w : Word) → Still s (replace_by field put v a w s)
-  still-replace field put x2 a w = search rules
+  still-replace field put v a w = search rules
 
 -- How a call goes: still, or as a turn and a take.
 pub data Goes {V : Type 0} (s : State V) (says : Bool) (c : Collection V) : After (State V) V → Collection V → Type 0 where

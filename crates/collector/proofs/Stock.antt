@@ -35,7 +35,7 @@ marks-full Phase.Mark c s l p =
 marks-full Phase.Sweep c s l p = p.0
 
 pub sweeps-full : {V : Type 0} (ph : Phase) (c : Collection V) (s : State V) → PacedIn ph c s → SweepsFull s.fixed.k2 (size s) c
-sweeps-full x0 c s p = search (rules, mul-le-mul_left)
+sweeps-full ph c s p = search (rules, mul-le-mul_left)
 
 -- No more mark turns than the reachable cells ask for.
 pub marks-few : {V : Type 0} {c : Collection V} {s : State V} → 1 ≤ s.fixed.k1 → Paced c s → (A : ℕ) → AtMost A (Reachable c.began) → c.mark_turns ≤ turns_for A s.fixed.k1
@@ -82,7 +82,7 @@ module _ {V : Type 0} {A : ℕ} {c : Collection V} {s : State V} (i : Inv c s) (
     same = (sweep-place i sweeping).0
 
     last-few : turns ≤ turns_for (size s) s.fixed.k2
-    last-few = search rules
+    last-few = rw (← same) (turns-bound turns s.fixed.k2 (length g.cells) i.grounded.sweeps_some (sweeps-full (swept s).phase (after-sweep s c) (swept s) after.paced))
 
     place : g.pool.sweeper ≡ min (s.fixed.k2 * turns) (size s)
     place = search (rules, place-now, same)

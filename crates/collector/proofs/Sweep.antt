@@ -15,7 +15,7 @@ use Rattle.collector.proofs.Same.{Same, same-mark, sound-map, sounds-map, listed
 use Rattle.collector.proofs.Invariant.{Vacant, Listed, Live, Freed, Sweeping, Core}
 
 pub reserved-is : (w : Word) → is_reserved w ≡ true → w ≡ Word.Reserved
-reserved-is x0 e = search rules
+reserved-is w e = search rules
 
 pub reserved-not : (w : Word) → is_reserved w ≡ false → w ≡ Word.Reserved → ⊥
 reserved-not w e q = search rules
@@ -50,13 +50,13 @@ module _ (R F : ℕ → Type 0) (popped : List ℕ) (limit : ℕ) (ws : List Wor
 
     module _ {ds : List Cell} {head : Word} {count : ℕ} {more : List ℕ} (t : Treated g ds head count more) where
       words : (n : ℕ) → Live R F p cs n → ((at ds n).car ≡ (at cs n).car) × ((at ds n).cdr ≡ (at cs n).cdr)
-      words n h = grind (arith, cases_eq n p, t.other, t.same)
+      words n h = search (rules, cases_eq n p, t.other, t.same)
 
       to : (n : ℕ) → Live R F p cs n → Live R F (p + 1) ds n
       to n h = grind (arith, words, t.len)
 
       back : (n : ℕ) → Live R F (p + 1) ds n → Live R F p cs n
-      back n h = grind (arith, cases_eq n p, t.other, t.len, t.was)
+      back n h = search (rules, cases_eq n p, t.other, t.len, t.was)
 
       news : (n : ℕ) → Mem n more → (n ≡ p) × (R n → ⊥) × (F n → ⊥)
       news n i = grind (arith, t.logged)
@@ -123,17 +123,7 @@ module _ (R F : ℕ → Type 0) (popped : List ℕ) (limit : ℕ) (ws : List Wor
 
     -- A free cell stays as it is.
     sweep-free : (at cs p).mark ≡ false → Vacant cs p → Treated g cs g.pool.head g.pool.count []
-    sweep-free m v = record {
-      len = refl;
-      other = λ n ne. refl;
-      off = m;
-      same = λ h. (refl, refl);
-      was = λ u. absurd (u v);
-      fs = c.fs;
-      listed = c.listed;
-      counted = omega arith;
-      logged = inl (refl, inr (c.above p v (omega arith)));
-    }
+    sweep-free m v = search rules
 
     -- Any other cell becomes the head of the free list.
     sweep-frees : length cs ≤ 4096 → (at cs p).mark ≡ false → (Vacant cs p → ⊥) → Treated g (changed (with_cdr Word.Reserved) (changed (with_car g.pool.head) cs p) p) (Word.Cell p) (raised g.pool.count) (p ∷ [])

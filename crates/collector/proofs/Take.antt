@@ -1,5 +1,5 @@
 -- A free cell is taken: what it keeps of the invariant. Assumes nothing.
-use Rattle.std.proofs.Common.{◌≡◌, ℕ, ◌-◌, ◌<◌, ◌≤◌, Bool, true, leb, List, [], ◌∷◌, length, set, Ok, ap, arith, rules}
+use Rattle.std.proofs.Common.{◌≡◌, ℕ, ◌-◌, ◌<◌, ◌≤◌, Bool, true, leb, List, [], ◌∷◌, length, set, Ok, ap, arith, rules, inr}
 use Rattle.std.proofs.lemmas.Bool.{cases_eq, cases_lt, le-leb, lt-leb}
 use Rattle.bank.specs.Words.{number_of, with_car, with_cdr, with_mark}
 use Rattle.bank.specs.Banks.{changed}
@@ -74,7 +74,7 @@ module _ {R F : ℕ → Type 0} {popped freed : List ℕ} {limit : ℕ} {cs : Li
             links = links-on cs ds (at cs h).car rest (λ n i'. ap car_of (put.other n (λ e. t.listed.distinct.0 (rw e at i')))) t.listed.links.1;
             distinct = t.listed.distinct.1;
             counted = search rules;
-            vacant = λ n i'. grind (arith, put.other, t.listed.vacant);
+            vacant = λ n i'. rw (put.other n (λ e. t.listed.distinct.0 (rw e at i'))) (t.listed.vacant n (inr i'));
             only = λ n v. search (rules, t.listed.only, vacant-was put);
           };
           above = λ n v l. search (rules, t.core.above, vacant-was put);
@@ -82,20 +82,10 @@ module _ {R F : ℕ → Type 0} {popped freed : List ℕ} {limit : ℕ} {cs : Li
           log = t.core.log;
         }
 
-    pub taken-length : length ds ≡ length cs
-    taken-length = put.len
-
     -- Where the sweep stands belongs to what is still to be swept: the new cell is marked at that place too.
     pub taken-sweeping : {stack : List ℕ} → m ≡ leb pool.sweeper h → Sweeping R F pool.sweeper popped cs stack → Sweeping R F pool.sweeper popped ds stack
     taken-sweeping e s = put-sweeping put taken_live (λ l. search (rules, here, lt-leb)) (λ l. search (rules, here, le-leb)) s
 
     -- The new cell was free when marking began, so it was not reachable.
     pub taken-marks : pool.sweeper ≡ 0 → m ≡ true → Marks put
-    taken-marks z e = record {
-      live = search (rules, taken_live);
-      grows = λ n k. search (rules, cases_eq n h, here, put.other);
-      same = λ n r. search (rules, cases_eq n h, put.other, t.core.past.apart, t.core.above, vacant-h);
-      new = search (rules, here);
-      car = λ r. search (rules, t.core.past.apart, t.core.above, vacant-h);
-      cdr = λ r. search (rules, t.core.past.apart, t.core.above, vacant-h);
-    }
+    taken-marks z e = grind (arith, cases_eq, put.other, taken_live, here, vacant-h, t.core.past.apart, t.core.above)

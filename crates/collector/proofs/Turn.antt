@@ -50,7 +50,7 @@ module _ {V : Type 0} {c : Collection V} {s : State V} (i : Inv c s) where
   anew-reached n l = search (rules, free-is)
 
   anew-sound : (w : Word) → ((m : ℕ) → w ≡ Word.Cell m → Reachable s m) → Sound limit Used w → Sound limit Anew w
-  anew-sound x0 f h = search rules
+  anew-sound w f h = search rules
 
   abbrev pool-at-start : Pool
   pool-at-start = record { head = s.pool.head; count = s.pool.count; sweeper = 0 }

@@ -8,7 +8,7 @@ use Rattle.bank.specs.declared.word.Cell.{Cell}
 use Rattle.bank.specs.declared.word.Change.{Change}
 use Rattle.bank.specs.Words.{word_in, with_change}
 use Rattle.bank.specs.Banks.{fits}
-use Rattle.memory.specs.Packing.{above, field_of, kind_of, mark_bit, word_bits, word_of_bits, packed, unpacked, Narrow, packed_top}
+use Rattle.memory.specs.Packing.{above, field_of, mark_bit, word_bits, word_of_bits, packed, unpacked, Narrow, packed_top}
 
 -- The lowest field, and the fields above it.
 pub field-here : (high wide low : ℕ) → low < 2 ^ wide → field_of (above high wide low) 0 wide ≡ low

@@ -1,7 +1,7 @@
 ghost use Rattle.std.specs.Prelude.{◌≡◌, min, length, replicate, is_ok, if◌then◌else◌, slice_index_or};
 ghost use Rattle.bank.specs.Words.{blank, with_change};
 ghost use Rattle.bank.specs.Banks.{change_taken, change_put};
-ghost use Rattle.memory.specs.Memories.{front, cleared, shown, stored, Packed};
+ghost use Rattle.memory.specs.Memories.{cleared, shown, stored, Packed};
 ghost use Rattle.memory.specs.Elements.{sound-memory};
 
 use super::element::Element;
@@ -14,7 +14,7 @@ const MOST: usize = 4096;
 #[derive(Drop)]
 pub struct LentBank<'a, E: Element> {
     memory: &'a mut [E],
-    ghost packed: { Packed E.shows E.stores memory.now },
+    pub ghost packed: { Packed E.shows E.stores memory.now },
 }
 
 // Its elements are packed cells.

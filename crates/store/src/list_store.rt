@@ -41,12 +41,6 @@ pub trait ListStore {
 
     ghost rule: { Self → Self.Rule };
 
-    // The law of stores: its start rule says yes at the floor, and what it stands on keeps its bounds. It stands above the
-    // methods, where it is a member that proofs can name.
-    ghost keeps: { (s : Self) → Keeps (state s) (says s) };
-
-    ghost grounded: { (s : Self) → Grounded (state s).fixed (size (state s)) };
-
     // Sets register i to the atom of a value.
     fn load(&mut self, i: u32, value: &Self::Value) -> Result<(), StoreFault>
         ensures state { state self.new ≡ (call_on (says self.old) (state self.old) (Call.Load i value.now)).state }
@@ -150,4 +144,9 @@ pub trait ListStore {
             Call::Same(i, j) => Ok(Answer::Same(self.same(*i, *j)?)),
         }
     }
+
+    // The start rule says yes at its floor, and what the store stands on keeps its bounds.
+    ghost keeps: { (s : Self) → Keeps (state s) (says s) };
+
+    ghost grounded: { (s : Self) → Grounded (state s).fixed (size (state s)) };
 }

@@ -7,7 +7,7 @@ use bank::Word;
 use collector::StoreFault;
 
 // The sixteen registers.
-#[derive(Clone, Copy)]
+#[derive(Clone, Copy, PartialEq, Eq, Debug)]
 pub struct Registers {
     words: [Word; 16],
     ghost full: { length words ≡ 16 },
@@ -26,10 +26,10 @@ impl Registers {
     pub fn get(&self, r: u32) -> Result<Word, StoreFault>
         ensures { result ≡ (if nat_lt r 16 then Ok (register self.now.words r) else Err (StoreFault.NoRegister r)) }
     {
-        if r >= 16 {
-            return Err(StoreFault::NoRegister(r));
-        }
-        Ok(self.words[r as usize])
+        self.words
+            .get(r as usize)
+            .copied()
+            .ok_or(StoreFault::NoRegister(r))
     }
 
     // A register set; a number that is none's changes nothing.

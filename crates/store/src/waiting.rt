@@ -8,7 +8,7 @@ use std::marker::Model;
 // The most cells that wait at once: as many as a bank has.
 const MOST: usize = 4096;
 
-// The numbers of the cells that wait to be scanned, the latest last. It stands in fixed memory of its own: no call allocates.
+// The numbers of the cells that wait to be scanned, the latest last. A plain array, as the project asks: a store has fixed memory, and no call allocates.
 #[derive(Drop)]
 pub struct Waiting {
     cells: [u16; 4096],

@@ -1,4 +1,4 @@
-// The ten calls, and what panels and tests read.
+// The ten calls, and what is read of a store.
 ghost use Rattle.store.specs.Meaning.{meant, rule_says, grounded-by};
 
 use super::Store;

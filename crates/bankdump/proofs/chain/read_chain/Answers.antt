@@ -1,11 +1,9 @@
 use Rattle.std.proofs.Common.{◌≡◌, suc, ◌+◌, ◌-◌, [], ◌∷◌, ◌++◌, length, get_or, vec_items, sym, refl, ap, ◌∙◌, arith}
-use native.Mathlib.Nat.{sub-zero}
 use Rattle.std.proofs.lemmas.List.{append-nil}
 use Rattle.std.proofs.lemmas.Slice.{pushed}
-use Rattle.bank.specs.declared.word.Word.{Word}
 use Rattle.bank.specs.Words.{blank}
 use Rattle.bank.proofs.Laws.{asked-ok, on_cell-refused}
-use Rattle.bankdump.specs.Chains.{atom_in, atoms_from}
+use Rattle.bankdump.specs.Chains.{atom_in}
 use Rattle.bankdump.proofs.Chaining.{none_from, past-from, more-from, no-atom, read_more, read_all}
 use Rattle.bankdump.proofs.chain.read_chain.Goals as goal
 use Rattle.bankdump.proofs.chain.read_chain.Goals.{in-Atom+in_ok-push, in_default-car}

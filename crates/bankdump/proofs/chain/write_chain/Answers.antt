@@ -1,5 +1,5 @@
-use Rattle.std.proofs.Common.{◌≡◌, ◌+◌, ◌≤◌, false, cond, ltb, ◌++◌, length, get_or, take, drop, sym, refl, ap, ◌∙◌, arith}
-use Rattle.std.proofs.lemmas.List.Edits.{paste_none, paste_all}
+use Rattle.std.proofs.Common.{◌≡◌, ◌+◌, ◌≤◌, false, cond, ltb, ◌++◌, length, get_or, take, drop, sym, ap, ◌∙◌, arith}
+use Rattle.std.proofs.lemmas.List.Edits.{paste_all}
 use Rattle.std.proofs.lemmas.Bool.{lt-ltb, le-ltb, cond-true, cond-false}
 use Rattle.bank.specs.declared.word.Word.{Word}
 use Rattle.bank.specs.Banks.{cell_put}

@@ -6,7 +6,7 @@ use Rattle.store.proofs.runs.finish.Goals as goal
 pub loop-call-init : goal.loop-call-init
 loop-call-init g c =
     let m = g.S.ListStore.state c.args.store in
-    let ground = g.S.ListStore.grounded c.args.store in (
+    let ground = g.met.S.ListStore.grounded c.args.store in (
       λ fixed size e. run-as fixed size m [] [] [] (vec_items c.new-outcomes.result) refl (sym c.new-outcomes.ensures.items) (run_none fixed size (grounded-new fixed size m e ground) m e),
       refl,
     )
@@ -15,10 +15,10 @@ pub loop-call-preserved : goal.loop-call-preserved
 loop-call-preserved g c =
     let m = g.S.ListStore.state in
     let s = c.loop-call.store in
-    let ground = g.S.ListStore.grounded c.args.store in (
+    let ground = g.met.S.ListStore.grounded c.args.store in (
       λ fixed size e. run-next fixed size (grounded-new fixed size (m c.args.store) e ground) c.args.calls.now c.loop-call.call-index (vec_items c.loop-call.outcomes) (vec_items c.push.new.self)
           (m s) (m c.apply-outcome.new.self) c.call-item.result c.apply-outcome.result (g.S.ListStore.says s)
-          c.loop-call-test.true c.call-item.is c.in_default.ensures.items (g.S.ListStore.keeps s)
+          c.loop-call-test.true c.call-item.is c.in_default.ensures.items (g.met.S.ListStore.keeps s)
           c.apply-outcome.ensures.state c.apply-outcome.ensures.answer (c.loop-call.invariant.0 fixed size e),
       c.apply-outcome.ensures.kind ∙ c.loop-call.invariant.1,
     )
@@ -27,7 +27,7 @@ pub returns-in-Err-clause-law : goal.returns-in-Err-clause-law
 returns-in-Err-clause-law g c =
     let m = g.S.ListStore.state in
     let s = c.loop-call.store in
-    let ground = g.S.ListStore.grounded c.args.store in
+    let ground = g.met.S.ListStore.grounded c.args.store in
     let p = c.in-Err.ensures in
     λ fixed size e. (
       c.loop-call.call-index + 1,
@@ -35,7 +35,7 @@ returns-in-Err-clause-law g c =
           (m s) (m c.apply-outcome.new.self) c.call-item.result c.apply-outcome.result (g.S.ListStore.says s)
           c.loop-call-test.true c.call-item.is
           (rw (p.items, p.value_returned) refl)
-          (g.S.ListStore.keeps s)
+          (g.met.S.ListStore.keeps s)
           c.apply-outcome.ensures.state c.apply-outcome.ensures.answer (c.loop-call.invariant.0 fixed size e),
     )
 
