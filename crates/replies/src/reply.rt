@@ -1,4 +1,4 @@
-// What is printed for a line of a plan.
+// What is printed for a line of a plan. Flat, and no result of an answer: its cases are the texts that there are.
 ghost use Rattle.std.specs.Prelude.{◌≡◌, Some};
 ghost use Rattle.replies.specs.Replies.{reply_text, reply_of, answer_reply, seen_reply};
 
