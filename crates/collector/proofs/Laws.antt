@@ -20,7 +20,7 @@ use Rattle.collector.proofs.Sets.{few-below, each_at}
 use Rattle.collector.proofs.Chains.{listed-is}
 use Rattle.collector.proofs.Ceilings.{turns-bound}
 use Rattle.collector.proofs.Turn.{Used, live_now, free-is, in-sweep, turn-keeps}
-use Rattle.collector.proofs.Steps.{Field, car-field, cdr-field, replace-is, take-lacks, take-takes, register-sound, step_keeps}
+use Rattle.collector.proofs.Steps.{Field, car-field, cdr-field, replaced-is, take-lacks, take-takes, register-sound, step_keeps}
 use Rattle.collector.proofs.Start.{new-keeps, linked-length}
 use Rattle.collector.proofs.Moves.{turn-moves, next-fixed, next-size}
 use Rattle.collector.proofs.Collections.{collections-each}
@@ -155,7 +155,7 @@ module _ {V : Type 0} {c : Collection V} {s : State V} (i : Inv c s) where
 
   spared-replace : (field : Cell → Word) (put : Word → Cell → Cell) → Field field put → (a b : ℕ) (w : Word) → register s.registers a ≡ w → Spared s (replace_by field put w a (register s.registers b) s)
   spared-replace field put f a b Word.Nil e = λ fault q l. refl
-  spared-replace field put f a b (Word.Cell n) e = rw (replace-is f i a b n (holds-live a n e)) (spared-ok s _ Answer.Done)
+  spared-replace field put f a b (Word.Cell n) e = rw (replaced-is f i a b n (holds-live a n e)) (spared-ok s _ Answer.Done)
   spared-replace field put f a b (Word.Atom k) e = λ fault q l. refl
   spared-replace field put f a b Word.Reserved e = λ fault q l. refl
 

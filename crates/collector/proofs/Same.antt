@@ -40,9 +40,6 @@ done-marks cs ds f w d = search rules
 pub dones-marks : (cs ds : List Cell) → ((n : ℕ) → (at cs n).mark ≡ true → (at ds n).mark ≡ true) → (ws : List Word) → Each (Done cs) ws → Each (Done ds) ws
 dones-marks cs ds f ws h = search (each_map, done-marks)
 
-pub done-grown : (cs ds : List Cell) → Grown cs ds → (w : Word) → Done cs w → Done ds w
-done-grown cs ds g w d = search rules
-
 pub sound-map : (limit : ℕ) (P Q : ℕ → Type 0) → ((n : ℕ) → P n → Q n) → (w : Word) → Sound limit P w → Sound limit Q w
 sound-map limit P Q f w h = search rules
 

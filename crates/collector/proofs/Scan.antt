@@ -8,7 +8,7 @@ use Rattle.collector.specs.Turns.{offer, offers, scan_on, scan, scans, latest, s
 use Rattle.collector.specs.Calls.{car_of, cdr_of}
 use Rattle.collector.specs.Reach.{Reach, root, via}
 use Rattle.collector.proofs.Sets.{mem-left, mem-right, mem-either, distinct_append, each_at}
-use Rattle.collector.proofs.Same.{Same, Grown, grown-trans, done-grown, live_same, sounds-map, closed_same}
+use Rattle.collector.proofs.Same.{Same, Grown, grown-trans, done-marks, live_same, sounds-map, closed_same}
 use Rattle.collector.proofs.Mark.{offer-marks}
 use Rattle.collector.proofs.Invariant.{Vacant, Sound, Closed, Live, Done, Kept, Marking, Sweeping, Past}
 
@@ -39,7 +39,7 @@ module _ (R F : ℕ → Type 0) (limit : ℕ) (ws : List Word) where
     offers-marks hand popped (v ∷ vs) h r s m =
         let o = offer-marks R F old hand popped limit v h s.0 r.few r.past m in
         let rest = offers-marks hand popped vs (offer v h) (ready-same h.cells (offer v h).cells o.grown.same r) (sounds-map limit (Live R F 0 h.cells) (Live R F 0 (offer v h).cells) (live_same R F 0 h.cells (offer v h).cells o.grown.same) vs s.1) o.marking in
-        search (rules, grown-trans, done-grown)
+        search (rules, grown-trans, done-marks, rest.grown.marks)
 
     -- The latest waiting cell is taken in hand.
     pop-marking : (popped : List ℕ) (cs : List Cell) (m : ℕ) (stack : List ℕ) → Marking R F old [] popped cs (m ∷ stack) → Marking R F old (m ∷ []) (popped ++ m ∷ []) cs stack

@@ -19,7 +19,7 @@ use Rattle.collector.specs.Laws.{Grounded, lacks, unless, remaining, fed_calls, 
 use Rattle.collector.proofs.Cells.{changed-here}
 use Rattle.collector.proofs.Take.{filled-here}
 use Rattle.collector.proofs.Turn.{Used, live_now, turn-keeps}
-use Rattle.collector.proofs.Steps.{Field, car-field, cdr-field, take-takes, taken-state, asked_is, replace-is, replaced-state, offered-heap, kept, step_keeps}
+use Rattle.collector.proofs.Steps.{Field, car-field, cdr-field, take-takes, taken-state, asked_is, replaced-is, replaced-state, offered-heap, kept, step_keeps}
 use Rattle.collector.proofs.Start.{new-keeps}
 use Rattle.collector.proofs.Moves.{Moved, turn-moves}
 use Rattle.collector.proofs.Agree.{rename, Agree, register-agrees, register-root, store-reaches, agree-named, seen-agrees, same-agrees}
@@ -102,7 +102,7 @@ module _ {V : Type 0} {f : ℕ → ℕ} {e : Endless} {c : Collection V} {s : St
         let wb : Word = register s.registers b in
         let wx : Word = register e.registers b in
         let there = subst (λ (v : Word). ((at (replaced-state fd i (f x) wb).heap.cells (f x)).car ≡ (put v (at s.heap.cells (f x))).car) × ((at (replaced-state fd i (f x) wb).heap.cells (f x)).cdr ≡ (put v (at s.heap.cells (f x))).cdr)) (register-agrees g b) (both-here (f x) live wb) in
-        rw (replace-is fd i a b (f x) live)
+        rw (replaced-is fd i a b (f x) live)
         (inr (refl, refl, (f, agree-rewritten put put_pair twins f e s (replaced-state fd i (f x) wb) g x wx h (λ y v. names b y v) refl there (both-elsewhere (f x) live wb))))
     replace_meets a b (Word.Atom k) q = inr (refl, refl, (f, g))
     replace_meets a b Word.Reserved q = inr (refl, refl, (f, g))

@@ -14,7 +14,7 @@ use Rattle.collector.specs.Lists.{Mem}
 use Rattle.collector.specs.States.{Heap, State, at, roots}
 use Rattle.collector.specs.Turns.{offer, work}
 use Rattle.collector.specs.Outcomes.{refuse, done, answer, register}
-use Rattle.collector.specs.Calls.{with_register, with_heap, with_pool, with_cells, load_if, unlinked, take, read_by, offer_in, write, replace_by, car_of, cdr_of, perform, checked}
+use Rattle.collector.specs.Calls.{replace, with_register, with_heap, with_pool, with_cells, load_if, unlinked, take, read_by, offer_in, write, replace_by, car_of, cdr_of, perform, checked}
 use Rattle.collector.specs.Reach.{Reachable, Free}
 use Rattle.collector.specs.Runs.{Event, next, Collection, onward_if, onward}
 use Rattle.collector.proofs.Cells.{reserved-within}
@@ -194,11 +194,14 @@ module _ {V : Type 0} {field : Cell → Word} {put : Word → Cell → Cell} (f 
           (was-offered car_of (kept.grown.same.cars n) f.car-kept)
           (was-offered cdr_of (kept.grown.same.cdrs n) f.cdr-kept)
 
-  -- What a replacement comes to.
-  pub replace-is : (a b n : ℕ) → Used i n → replace_by field put (Word.Cell n) a (register s.registers b) s ≡ done (replaced-state n (register s.registers b))
-  replace-is a b n live =
+  -- What a replacement comes to, at a cell that is named.
+  pub replaced-is : (a b n : ℕ) → Used i n → replace_by field put (Word.Cell n) a (register s.registers b) s ≡ done (replaced-state n (register s.registers b))
+  replaced-is a b n live =
       rw (asked_is i n live.within)
       (write-is put n (register s.registers b) (with_heap (offered-heap n) s) (let l = live.within in let q = (kept n live).grown.same.len in omega arith) (sound-limit i (register s.registers b) (register-sound i b)))
+
+  pub replace-is : (a b n : ℕ) → register s.registers a ≡ Word.Cell n → Used i n → replace field put a b s ≡ done (replaced-state n (register s.registers b))
+  replace-is a b n e live = rw e (replaced-is a b n live)
 
 -- Each call keeps the invariant.
 module _ {V : Type 0} {c : Collection V} {s : State V} (i : Inv c s) where
@@ -217,7 +220,7 @@ module _ {V : Type 0} {c : Collection V} {s : State V} (i : Inv c s) where
 
   replace-keeps : (field : Cell → Word) (put : Word → Cell → Cell) → Field field put → (a b : ℕ) (w : Word) → register s.registers a ≡ w → Inv c (replace_by field put w a (register s.registers b) s).state
   replace-keeps field put f a b Word.Nil e = i
-  replace-keeps field put f a b (Word.Cell n) e = rw (replace-is f i a b n (names a n e)) (replaced-keeps f i n (names a n e) (register s.registers b) (register-sound i b))
+  replace-keeps field put f a b (Word.Cell n) e = rw (replaced-is f i a b n (names a n e)) (replaced-keeps f i n (names a n e) (register s.registers b) (register-sound i b))
   replace-keeps field put f a b (Word.Atom k) e = i
   replace-keeps field put f a b Word.Reserved e = i
 

@@ -104,8 +104,8 @@ module _ (R F : ℕ → Type 0) (popped : List ℕ) (limit : ℕ) (ws : List Wor
       }
 
     -- A marked cell loses its mark.
-    sweep-marked : (at cs p).mark ≡ true → Treated g (changed (with_mark false) cs p) g.pool.head g.pool.count []
-    sweep-marked m =
+    treated-marked : (at cs p).mark ≡ true → Treated g (changed (with_mark false) cs p) g.pool.head g.pool.count []
+    treated-marked m =
         let ds : List Cell = changed (with_mark false) cs p in
         let e : Same cs ds = same-mark false cs p in
         let live : Live R F p cs p = s.holds p (omega arith) l m in
@@ -122,12 +122,12 @@ module _ (R F : ℕ → Type 0) (popped : List ℕ) (limit : ℕ) (ws : List Wor
         }
 
     -- A free cell stays as it is.
-    sweep-free : (at cs p).mark ≡ false → Vacant cs p → Treated g cs g.pool.head g.pool.count []
-    sweep-free m v = search rules
+    treated-free : (at cs p).mark ≡ false → Vacant cs p → Treated g cs g.pool.head g.pool.count []
+    treated-free m v = search rules
 
     -- Any other cell becomes the head of the free list.
-    sweep-frees : length cs ≤ 4096 → (at cs p).mark ≡ false → (Vacant cs p → ⊥) → Treated g (changed (with_cdr Word.Reserved) (changed (with_car g.pool.head) cs p) p) (Word.Cell p) (raised g.pool.count) (p ∷ [])
-    sweep-frees few m nv =
+    treated-freed : length cs ≤ 4096 → (at cs p).mark ≡ false → (Vacant cs p → ⊥) → Treated g (changed (with_cdr Word.Reserved) (changed (with_car g.pool.head) cs p) p) (Word.Cell p) (raised g.pool.count) (p ∷ [])
+    treated-freed few m nv =
         let bs : List Cell = changed (with_car g.pool.head) cs p in
         let ds : List Cell = changed (with_cdr Word.Reserved) bs p in
         let bl : length bs ≡ length cs = search rules in
@@ -157,15 +157,25 @@ module _ (R F : ℕ → Type 0) (popped : List ℕ) (limit : ℕ) (ws : List Wor
           logged = inr (refl, λ r. dead (record { within = l; used = nv; known = inr (inl r) }), λ f. dead (record { within = l; used = nv; known = inr (inr f) }));
         }
 
+  -- The sweep of a free cell, and of any other cell that is not marked.
+  sweep-free : (fr : List ℕ) (g : Ground) → Core R F popped fr limit g.cells g.pool ws → Sweeping R F g.pool.sweeper popped g.cells stack
+      → g.pool.sweeper < length g.cells → (at g.cells g.pool.sweeper).mark ≡ false → Vacant g.cells g.pool.sweeper → Swept fr [] g (advance (treat false true limit g.pool.sweeper g))
+  sweep-free fr g c s l m v = treated fr g c s l (treated-free fr g c s l m v)
+
+  sweep-frees : (fr : List ℕ) (g : Ground) → length g.cells ≤ 4096 → 4095 ≤ limit → Core R F popped fr limit g.cells g.pool ws → Sweeping R F g.pool.sweeper popped g.cells stack
+      → g.pool.sweeper < length g.cells → (at g.cells g.pool.sweeper).mark ≡ false → (Vacant g.cells g.pool.sweeper → ⊥)
+      → Swept fr (g.pool.sweeper ∷ []) g (advance (treat false false limit g.pool.sweeper g))
+  sweep-frees fr g few wide c s l m nv =
+      let fits = listed-fits g.cells g.pool.head g.pool.count c.fs c.listed few limit wide in
+      let put : word_put with_cdr limit (word_put with_car limit g.cells g.pool.sweeper g.pool.head) g.pool.sweeper Word.Reserved ≡ changed (with_cdr Word.Reserved) (changed (with_car g.pool.head) g.cells g.pool.sweeper) g.pool.sweeper = search (rules, put-fits) in
+      rw put (treated fr g c s l (treated-freed fr g c s l few m nv))
+
   treat-keeps : (marked free : Bool) (fr : List ℕ) (g : Ground) → length g.cells ≤ 4096 → 4095 ≤ limit → Core R F popped fr limit g.cells g.pool ws → Sweeping R F g.pool.sweeper popped g.cells stack
       → g.pool.sweeper < length g.cells → (at g.cells g.pool.sweeper).mark ≡ marked → is_reserved (at g.cells g.pool.sweeper).cdr ≡ free
       → Swept fr (frees_if true marked free g.pool.sweeper) g (advance (treat marked free limit g.pool.sweeper g))
-  treat-keeps true free fr g few wide c s l m f = treated fr g c s l (sweep-marked fr g c s l m)
-  treat-keeps false true fr g few wide c s l m f = treated fr g c s l (sweep-free fr g c s l m (reserved-is (at g.cells g.pool.sweeper).cdr f))
-  treat-keeps false false fr g few wide c s l m f =
-      let fits = listed-fits g.cells g.pool.head g.pool.count c.fs c.listed few limit wide in
-      let put : word_put with_cdr limit (word_put with_car limit g.cells g.pool.sweeper g.pool.head) g.pool.sweeper Word.Reserved ≡ changed (with_cdr Word.Reserved) (changed (with_car g.pool.head) g.cells g.pool.sweeper) g.pool.sweeper = search (rules, put-fits) in
-      rw put (treated fr g c s l (sweep-frees fr g c s l few m (reserved-not (at g.cells g.pool.sweeper).cdr f)))
+  treat-keeps true free fr g few wide c s l m f = treated fr g c s l (treated-marked fr g c s l m)
+  treat-keeps false true fr g few wide c s l m f = sweep-free fr g c s l m (reserved-is (at g.cells g.pool.sweeper).cdr f)
+  treat-keeps false false fr g few wide c s l m f = sweep-frees fr g few wide c s l m (reserved-not (at g.cells g.pool.sweeper).cdr f)
 
   stays : (fr : List ℕ) (g : Ground) → Core R F popped fr limit g.cells g.pool ws → Sweeping R F g.pool.sweeper popped g.cells stack → Swept fr [] g g
   stays fr g c s = search rules

@@ -1,5 +1,5 @@
 -- A turn keeps the invariant. Assumes nothing.
-use Rattle.std.proofs.Common.{◌≡◌, ℕ, ◌+◌, ◌<◌, ◌≤◌, min, Bool, true, false, cond, leb, List, [], ◌++◌, length, sym, refl, subst, inl, inr, arith, rules}
+use Rattle.std.proofs.Common.{◌≡◌, ℕ, ◌+◌, ◌<◌, ◌≤◌, min, Bool, true, false, cond, leb, List, [], ◌++◌, length, sym, refl, subst, inl, inr, rules}
 use Rattle.std.proofs.lemmas.Bool.{both_ways}
 use Rattle.bank.specs.declared.word.Word.{Word}
 use Rattle.bank.specs.declared.word.Cell.{Cell}
@@ -9,9 +9,9 @@ use Rattle.collector.specs.States.{Heap, Pool, State, at, roots}
 use Rattle.collector.specs.Turns.{Ground, offers, scans, scanned, sweeps, freed, begun, marked, ground, swept, turn_in, turn}
 use Rattle.collector.specs.Reach.{root, via, Reachable, Free}
 use Rattle.collector.specs.Runs.{Collection, beginning, onward_in}
-use Rattle.collector.proofs.Sets.{each_of, each_at, each_map, empty-is, mem-left}
+use Rattle.collector.proofs.Sets.{each_of, each_at, empty-is, mem-left}
 use Rattle.collector.proofs.Chains.{listed-is}
-use Rattle.collector.proofs.Same.{Grown, core-same, done-grown}
+use Rattle.collector.proofs.Same.{core-same, dones-marks}
 use Rattle.collector.proofs.Scan.{Ready, Marked, offers-marks, scans-marks, marking-ends}
 use Rattle.collector.proofs.Sweep.{Swept, sweeps-keep, sweeps-place}
 use Rattle.collector.proofs.Invariant.{Vacant, Sound, Closed, Live, Done, Kept, Marking, Sweeping, Past, Core, Phased, Inv}
@@ -124,15 +124,12 @@ module _ {V : Type 0} {c : Collection V} {s : State V} (i : Inv c s) where
     after-phased : (b : Bool) (h : Heap) → is_empty h.stack ≡ b → Marked R F L (roots s) c.began.heap.cells [] (c.scanned_cells ++ scanned s.fixed.k1 s.heap) s.heap h []
         → Phased (cond b Phase.Sweep Phase.Mark) R F c.began.heap.cells (roots c.began) (c.scanned_cells ++ scanned s.fixed.k1 s.heap) h s.pool.sweeper
     after-phased true h e m =
-        let done : Each (Done h.cells) (roots c.began) = dones m.grown in
+        let done = dones-marks s.heap.cells h.cells m.grown.marks (roots c.began) in-mark.2 in
         let nothing : h.stack ≡ [] = empty-is h.stack e in
         let ps : List ℕ = c.scanned_cells ++ scanned s.fixed.k1 s.heap in
         let swept0 : Sweeping R F 0 ps h.cells [] = marking-ends F c.began.heap.cells (roots c.began) ps h.cells (subst (Marking R F c.began.heap.cells [] ps h.cells) nothing m.marking) done in
-        (let z = in-mark.0 in omega arith, subst (λ (p : ℕ). Sweeping R F p ps h.cells h.stack) (sym in-mark.0) (subst (Sweeping R F 0 ps h.cells) (sym nothing) swept0))
-      where
-        dones : Grown s.heap.cells h.cells → Each (Done h.cells) (roots c.began)
-        dones g = each_map (Done s.heap.cells) (Done h.cells) (done-grown s.heap.cells h.cells g) (roots c.began) in-mark.2
-    after-phased false h e m = search (rules, in-mark, each_map, done-grown)
+        (search (rules, in-mark.0), rw (in-mark.0, nothing) swept0)
+    after-phased false h e m = (in-mark.0, m.marking, dones-marks s.heap.cells h.cells m.grown.marks (roots c.began) in-mark.2)
 
     pub marked-keeps : Inv (after-mark s c) (marked s)
     marked-keeps = search (rules, mark-marked, core-same, core-popped, after-phased)
