@@ -6,6 +6,7 @@ use super::fault::BankFault;
 use super::word::{Cell, Change, Word};
 
 // A list of cells and the largest number that a word of them may have. Neither the limit nor the number of cells ever changes.
+// That the limit stays is a clause of each step, here and above: it joins what was and what is, and no type says that.
 pub trait Bank {
     ghost limit: { Self → ℕ };
 

@@ -4,7 +4,8 @@ ghost use Rattle.bank.specs.Banks.{taken};
 
 use super::fault::BankFault;
 
-// What a field of a cell holds. `Reserved` stands only in the cdr of a cell that is free.
+// What a field of a cell holds. A cell is named by its number: a store has fixed memory of its own, and no call allocates.
+// `Reserved` stands only in the cdr of a cell that is free.
 #[derive(Clone, Copy, PartialEq, Eq, Debug)]
 pub enum Word {
     Nil,

@@ -16,6 +16,7 @@ pub struct ZonePair {
 #[derive(Clone, Copy, PartialEq, Eq, Debug)]
 pub struct NotAPair;
 
+// By hand: a crate that derives it is more than these lines.
 impl From<ParseIntError> for NotAPair {
     fn from(_: ParseIntError) -> NotAPair {
         NotAPair

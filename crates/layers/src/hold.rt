@@ -104,6 +104,7 @@ impl<B: Bank> Bank for Hold<B> {
         Ok(self.places.over(self.below.word_limit(), n, below))
     }
 
+    // `answer` and `after` are the trait's own: beside further clauses the check asks for them again.
     fn set(&mut self, n: u32, change: Change) -> Result<(), BankFault>
         ensures answer { result ≡ change_taken (B.Bank.limit self.old.below) (hold_cells B.Bank.limit B.Bank.cells self.old) n change }
         ensures after { hold_cells B.Bank.limit B.Bank.cells self.new ≡ change_put (B.Bank.limit self.old.below) (hold_cells B.Bank.limit B.Bank.cells self.old) n change }

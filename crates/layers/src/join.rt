@@ -71,6 +71,7 @@ impl<F: Bank, G: Bank> Bank for Join<F, G> {
         }
     }
 
+    // `answer` and `after` are the trait's own: beside further clauses the check asks for them again.
     fn set(&mut self, n: u32, change: Change) -> Result<(), BankFault>
         ensures answer { result ≡ change_taken (join_limit F.Bank.limit G.Bank.limit self.old) (join_cells F.Bank.cells G.Bank.cells self.old) n change }
         ensures after { join_cells F.Bank.cells G.Bank.cells self.new ≡ change_put (join_limit F.Bank.limit G.Bank.limit self.old) (join_cells F.Bank.cells G.Bank.cells self.old) n change }

@@ -67,6 +67,7 @@ impl<B: Bank> Bank for Window<B> {
         self.below.cell(m)
     }
 
+    // `answer` and `after` are the trait's own: beside further clauses the check asks for them again.
     fn set(&mut self, n: u32, change: Change) -> Result<(), BankFault>
         ensures answer { result ≡ change_taken (B.Bank.limit self.old.below) (window_cells B.Bank.cells self.old) n change }
         ensures after { window_cells B.Bank.cells self.new ≡ change_put (B.Bank.limit self.old.below) (window_cells B.Bank.cells self.old) n change }

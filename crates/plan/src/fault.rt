@@ -13,14 +13,14 @@ pub enum PlanFault {
 }
 
 impl PlanFault {
-    // The number of the refusal. A method of each fault and not of a trait, since no code is generic in faults.
+    // The number by which reports name the refusal. A method of each fault and not of a trait, since no code is generic in faults.
     pub fn number(&self) -> u8
         ensures { result ≡ (told self.now).0 }
     {
         8
     }
 
-    // What the refusal returns: line and column, and two zeros where there is no place.
+    // What the refusal returns: line and column, and where there is no place two zeros, as the printed line has them.
     pub fn values(&self) -> [u32; 2]
         ensures { result ≡ (told self.now).1 }
     {

@@ -1,4 +1,4 @@
-// The free list, and where the sweep stands: sweeping.
+// The free list, and where the sweep stands: sweeping. The bank is a parameter of each step, since the heap owns it.
 ghost use Rattle.std.specs.Prelude.{◌≡◌, ◌-◌, min, false, length, if◌then◌else◌, nat_lt};
 ghost use Rattle.collector.specs.Turns.{is_reserved, treat, sweep, sweeps};
 ghost use Rattle.store.specs.Meaning.{ground_of};
@@ -56,7 +56,7 @@ impl Pool {
     }
 
     // The share of a sweep turn: up to k cells. The count of cells swept.
-    // Not one loop with `scans`: a step that is passed in would hide in its captures what it does to the bank.
+    // Not one loop with `scans`: a step that is passed in would hide what it does to the bank, and a trait for it is longer.
     pub fn sweeps<B: Bank>(&mut self, bank: &mut B, k: u8) -> u32
         ensures ground { ground_of B.cells bank.new self.new ≡ sweeps (B.limit bank.old) k (ground_of B.cells bank.old self.old) }
         ensures swept { result ≡ min k (length (B.cells bank.old) - self.old.sweeper) }

@@ -6,7 +6,7 @@ ghost use Rattle.collector.specs.Outcomes.{register};
 use bank::Word;
 use collector::StoreFault;
 
-// The sixteen registers.
+// The sixteen registers. Their count stands beside the array's type, since without it the proof of a cons is not found.
 #[derive(Clone, Copy, PartialEq, Eq, Debug)]
 pub struct Registers {
     words: [Word; 16],

@@ -82,7 +82,8 @@ impl<B: Bank, K: Kind, R: StartRule> Store<B, K, R> {
         (bank, kind, rule)
     }
 
-    // The roots of a new collection are offered, and the sweep is set back.
+    // The roots of a new collection are offered, and the sweep is set back. That kind and rule stay is a clause of each step, as
+    // in `ListStore`.
     fn begin(&mut self)
         ensures state { ⟦<Self as ListStore>⟧.state self.new ≡
             with_phase self.old.phase (begun (⟦<Self as ListStore>⟧.state self.old)) }
@@ -94,7 +95,7 @@ impl<B: Bank, K: Kind, R: StartRule> Store<B, K, R> {
         self.heap.offer_all(&words);
     }
 
-    // The share of work that the phase has in a turn. A match: there are three phases, and no caller brings another.
+    // The share of work that the phase has in a turn.
     fn share(&mut self) -> u32
         ensures state { ⟦<Self as ListStore>⟧.state self.new ≡ shared (⟦<Self as ListStore>⟧.state self.old) }
         ensures work { result ≡ work_of (⟦<Self as ListStore>⟧.state self.old) }
