@@ -143,3 +143,7 @@ checked None says s c = perform says s c
 -- A call on a store, where the start rule says `says` if the turn asks it.
 abbrev pub call : {V : Type 0} → Bool → State V → Call V → After (State V) V
 call says s c = checked (absent (registers_of c)) says s c
+
+-- A call on a store whose start rule is this one.
+abbrev pub call_under : {V R : Type 0} → (R → ℕ → Bool) → R → State V → Call V → After (State V) V
+call_under says rule s c = call (says rule s.pool.count) s c

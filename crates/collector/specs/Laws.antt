@@ -9,7 +9,7 @@ use Rattle.collector.specs.States.{State, Fixed, Atoms, size, at, new}
 use Rattle.collector.specs.Outcomes.{Outcome}
 use Rattle.collector.specs.Endless.{Endless, start, feed}
 use Rattle.collector.specs.Reach.{Reachable, ReachableIn, Free, free_list}
-use Rattle.collector.specs.Runs.{Event, next, outcome, final, outcomes, calls_of, Keeps, Admissible, Collection, collections}
+use Rattle.collector.specs.Runs.{Event, next, outcome, final, outcomes, calls_of, Keeps, Admissible, Ruled, Collection, collections}
 
 -- What the interfaces below a store promise: the bank's law, and the effort's bounds from below.
 pub record Grounded {V : Type 0} (fixed : Fixed V) (size : ℕ) : Type 0 where
@@ -113,6 +113,11 @@ pub record RunOf {V : Type 0} (fixed : Fixed V) (size : ℕ) (calls : List (Call
   pub ended : final (new fixed size) events ≡ last
   pub admissible : Admissible (new fixed size) events
   pub lawful : Lawful fixed size events
+
+-- The same under a start rule: the answers in the run are those that the rule gave, from what it was before to what it is after.
+pub record RuledRun {V R : Type 0} (says : R → ℕ → Bool) (becomes : R → ℕ → R → Type 0) (fixed : Fixed V) (size : ℕ) (rule : R) (calls : List (Call V)) (os : List (Outcome V)) (last : State V) (after : R) : Type 0 where
+  pub run : RunOf fixed size calls os last
+  pub ruled : Ruled says becomes (new fixed size) rule run.events after
 
 -- They hold of every run, for any effort, any bank that keeps the law of banks, any start rule that keeps the law of start rules, any kind of atom and any list of calls.
 abbrev pub EveryRunLawful : Type 0 → Type 0

@@ -1,5 +1,5 @@
 -- Runs: lists of calls from a new store, with what the start rule said, and the collections of a run.
-use Rattle.std.specs.Prelude.{◌≡◌, ℕ, ◌+◌, ◌≤◌, Bool, true, false, List, [], ◌∷◌, ◌++◌, map, Some, None, Option}
+use Rattle.std.specs.Prelude.{◌≡◌, ℕ, ◌+◌, ◌≤◌, Bool, true, false, List, [], ◌∷◌, ◌++◌, map, Some, None, Option, nat_le}
 use Rattle.collector.specs.declared.call.Call.{Call}
 use Rattle.collector.specs.declared.phase.Phase.{Phase}
 use Rattle.collector.specs.States.{State}
@@ -36,6 +36,45 @@ Keeps s says = s.phase ≡ Phase.Idle → s.pool.count ≤ s.fixed.floor → say
 abbrev pub Admissible : {V : Type 0} → State V → List (Event V) → Type 0
 Admissible s [] = Unit {0}
 Admissible s (e ∷ es) = Keeps s e.says × Admissible (next s e) es
+
+abbrev pub is_idle : Phase → Bool
+is_idle Phase.Idle = true
+is_idle Phase.Mark = false
+is_idle Phase.Sweep = false
+
+-- Whether a call asks the start rule: a cons whose registers are there does, on an idle store.
+abbrev pub asks_if : {V : Type 0} → Option ℕ → Call V → Phase → Bool
+asks_if (Some r) c phase = false
+asks_if None (Call.Load i v) phase = false
+asks_if None (Call.Clear i) phase = false
+asks_if None (Call.Copy i a) phase = false
+asks_if None (Call.Cons i a b) phase = is_idle phase
+asks_if None (Call.Car i a) phase = false
+asks_if None (Call.Cdr i a) phase = false
+asks_if None (Call.Rplaca a b) phase = false
+asks_if None (Call.Rplacd a b) phase = false
+asks_if None (Call.Look i) phase = false
+asks_if None (Call.Same i j) phase = false
+
+abbrev pub asks : {V : Type 0} → State V → Call V → Bool
+asks s c = asks_if (absent (registers_of c)) c s.phase
+
+-- The start rule after a call: what it may become where it was asked with the count, and otherwise as it was.
+abbrev pub RuleAfter : {R : Type 0} → (R → ℕ → R → Type 0) → Bool → R → ℕ → R → Type 0
+RuleAfter becomes true r count then = becomes r count then
+RuleAfter becomes false r count then = then ≡ r
+
+-- The start rule along a run from s: at each call its answer is what it says of the free count, and only a question changes it.
+abbrev pub Ruled : {V R : Type 0} → (R → ℕ → Bool) → (R → ℕ → R → Type 0) → State V → R → List (Event V) → R → Type 0
+Ruled says becomes s r [] last = last ≡ r
+Ruled {V} {R} says becomes s r (e ∷ es) last =
+    (then : R) × (e.says ≡ says r s.pool.count) × RuleAfter becomes (asks s e.call) r s.pool.count then × Ruled says becomes (next s e) then es last
+
+-- The events of some calls from s, where the rule says yes to the counts at or below this floor and to no other.
+abbrev pub under_floor : {V : Type 0} → ℕ → State V → List (Call V) → List (Event V)
+under_floor floor s [] = []
+under_floor {V} floor s (c ∷ cs) =
+    let e : Event V = record { call = c; says = nat_le s.pool.count floor } in e ∷ under_floor floor (next s e) cs
 
 -- A collection: the state just before the call whose turn began it, its turns after that one, the cells popped and freed in them.
 pub record Collection (V : Type 0) : Type 0 where

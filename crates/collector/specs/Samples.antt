@@ -1,22 +1,16 @@
 -- A short run, worked out by the definitions.
-use Rattle.std.specs.Prelude.{◌≡◌, ℕ, true, List, [], ◌∷◌, Some, Ok, Err, nat_le}
+use Rattle.std.specs.Prelude.{◌≡◌, ℕ, true, List, [], ◌∷◌, Some, Ok, Err}
 use Rattle.collector.specs.declared.call.Answer.{Answer}
 use Rattle.collector.specs.declared.call.Call.{Call}
 use Rattle.collector.specs.declared.call.Seen.{Seen}
 use Rattle.collector.specs.declared.fault.StoreFault.{StoreFault}
-use Rattle.collector.specs.Runs.{Event, next, outcomes}
+use Rattle.collector.specs.Runs.{outcomes, under_floor}
 use Rattle.collector.specs.States.{State, new}
 
 -- A store of three cells over atoms that are their own codes: one scan or sweep a turn, floor 1.
 abbrev pub three_cells : State ℕ
 three_cells =
     new (record { atoms = record { limit = 268435455; coded = λ v. v; valued = λ c. Some c }; floor = 1; k1 = 1; k2 = 1 }) 3
-
--- The events of some calls where the rule says yes to the counts at or below the floor and to no other.
-abbrev pub under_floor_rule : State ℕ → List (Call ℕ) → List (Event ℕ)
-under_floor_rule s [] = []
-under_floor_rule s (c ∷ cs) =
-    let e : Event ℕ = record { call = c; says = nat_le s.pool.count s.fixed.floor } in e ∷ under_floor_rule (next s e) cs
 
 -- The second cons drops the only name of the first cell, the third begins a collection, the fourth lacks a cell while it marks, the fifth gets the swept one.
 abbrev pub some_calls : List (Call ℕ)
@@ -25,6 +19,6 @@ some_calls =
 
 abbrev pub SampleRun : Type 0
 SampleRun =
-    outcomes three_cells (under_floor_rule three_cells some_calls)
+    outcomes three_cells (under_floor 1 three_cells some_calls)
     ≡ Ok Answer.Done ∷ Ok (Answer.Worked 0) ∷ Ok (Answer.Worked 0) ∷ Ok (Answer.Worked 0) ∷ Err (StoreFault.NoFreeCell 1) ∷ Ok (Answer.Worked 1)
     ∷ Ok (Answer.Saw (Seen.Atom 7)) ∷ Ok Answer.Done ∷ Ok (Answer.Same true) ∷ Err (StoreFault.NotACell 1) ∷ Err (StoreFault.NoRegister 16) ∷ []

@@ -19,6 +19,9 @@ fresh floor pace = record { floor = floor; pace = pace; refusals = 0 }
 abbrev pub next : PacedRule → ℕ → PacedRule
 next r count = record { floor = r.floor; pace = r.pace; refusals = if paced_says r count then 0 else r.refusals + 1 }
 
+abbrev pub paced_becomes : PacedRule → ℕ → PacedRule → Type 0
+paced_becomes r count after = after ≡ next r count
+
 pub paced-law : (r : PacedRule) → Lawful (paced_floor r) (paced_says r)
 paced-law r count low = or_left (nat_le count r.floor) (nat_le r.pace r.refusals) (le-leb count r.floor low)
 

@@ -1,6 +1,6 @@
 // The floor rule: yes exactly to the counts at or below its floor.
 ghost use Rattle.std.specs.Prelude.{◌≡◌};
-ghost use Rattle.pacing.specs.Floors.{floor_of, floor_says, floor-law};
+ghost use Rattle.pacing.specs.Floors.{floor_of, floor_says, floor_becomes, floor-law};
 
 use super::rule::StartRule;
 
@@ -22,6 +22,8 @@ impl StartRule for FloorRule {
 
     ghost says = { floor_says };
 
+    ghost becomes = { floor_becomes };
+
     ghost lawful = { floor-law };
 
     fn floor_count(&self) -> u32 {
@@ -31,7 +33,7 @@ impl StartRule for FloorRule {
     fn ask(&mut self, count: u32) -> bool
         ensures answer { result ≡ floor_says self.old count }
         ensures keeps { floor_of self.new ≡ floor_of self.old }
-        ensures same { self.new ≡ self.old }
+        ensures after { self.new ≡ self.old }
     {
         count <= self.floor
     }

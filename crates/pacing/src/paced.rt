@@ -1,7 +1,7 @@
 // The paced rule: yes at or below its floor, and also when it has said no as often as its pace since it was made or last
 // said yes.
 ghost use Rattle.std.specs.Prelude.{◌≡◌};
-ghost use Rattle.pacing.specs.Paced.{paced_floor, paced_says, fresh, next, paced-law, KeepsPace};
+ghost use Rattle.pacing.specs.Paced.{paced_floor, paced_says, paced_becomes, fresh, next, paced-law, KeepsPace};
 
 use super::rule::StartRule;
 
@@ -29,6 +29,8 @@ impl StartRule for PacedRule {
     ghost floor = { paced_floor };
 
     ghost says = { paced_says };
+
+    ghost becomes = { paced_becomes };
 
     ghost lawful = { paced-law };
 

@@ -7,6 +7,9 @@ pub trait StartRule {
 
     ghost says: { Self → ℕ → Bool };
 
+    // What a question with a count may leave the rule as. A relation, so that a rule may leave it open.
+    ghost becomes: { Self → ℕ → Self → Type 0 };
+
     // Above the methods, where it is a member that clauses and other members can name, and not below them as a law.
     ghost lawful: { (s : Self) → Lawful (floor s) (says s) };
 
@@ -17,5 +20,6 @@ pub trait StartRule {
     // The answer for a free count. Later answers may change, the floor does not.
     fn ask(&mut self, count: u32) -> bool
         ensures answer { result ≡ says self.old count }
-        ensures keeps { floor self.new ≡ floor self.old };
+        ensures keeps { floor self.new ≡ floor self.old }
+        ensures after { becomes self.old count self.new };
 }

@@ -2,9 +2,9 @@
 use Rattle.std.specs.Prelude.{◌≡◌, ℕ, min, List, [], ◌∷◌, ◌++◌, Some, None, Ok, Err, codes, Option, Result}
 use Rattle.atoms.specs.declared.zone.Zone.{Zone}
 use Rattle.atoms.specs.Zones.{zone_code, zone_of}
-use Rattle.collector.specs.Laws.{RunOf}
-use Rattle.collector.specs.Outcomes.{Outcome}
-use Rattle.collector.specs.States.{Fixed, State}
+use Rattle.collector.specs.Laws.{Lawful}
+use Rattle.collector.specs.Runs.{Event, outcomes, under_floor}
+use Rattle.collector.specs.States.{Fixed, new}
 use Rattle.pacing.specs.declared.fault.EffortFault.{EffortFault}
 use Rattle.plan.specs.declared.fault.PlanFault.{PlanFault}
 use Rattle.plan.specs.declared.line.Line.{Line}
@@ -31,10 +31,14 @@ abbrev pub later : List Line → List Line
 later [] = []
 later (l ∷ ls) = ls
 
--- The replies to the lines after the first, from a new store over a bank of this limit and size: their calls are a lawful run of it; each line is replied to by the outcome of its call, or by its own refusal.
-abbrev pub Served : ℕ → ℕ → Opening → List Line → List Reply → Type 0
-Served limit size opening ls rs =
-    (os : List (Outcome Zone)) × (s : State Zone) × RunOf (plan_fixed limit opening) size (calls_of_lines ls) os s × (rs ≡ Reply.Done ∷ replies_of_lines ls os)
+-- The calls that some lines make of a new store over a bank of this limit and size, each with the floor rule's answer.
+abbrev pub events_of : ℕ → ℕ → Opening → List Line → List (Event Zone)
+events_of limit size opening ls = under_floor opening.floor (new (plan_fixed limit opening) size) (calls_of_lines ls)
+
+-- The replies to the lines after the first: each is by the outcome of the line's call in that run, or by the line's own refusal; and the laws of runs hold of it.
+pub record Served (limit size : ℕ) (opening : Opening) (ls : List Line) (rs : List Reply) : Type 0 where
+  pub replied : rs ≡ Reply.Done ∷ replies_of_lines ls (outcomes (new (plan_fixed limit opening) size) (events_of limit size opening ls))
+  pub lawful : Lawful (plan_fixed limit opening) size (events_of limit size opening ls)
 
 -- The replies to a plan's lines, by how it opens: a store of that many packed cells, 4,096 at most.
 abbrev pub RepliedBy : Result (Option Opening) EffortFault → List Line → List Reply → Type 0

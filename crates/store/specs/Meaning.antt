@@ -1,5 +1,5 @@
 -- What a store holds, as the state that the definitions speak of.
-use Rattle.std.specs.Prelude.{ℕ, Bool, List, Option}
+use Rattle.std.specs.Prelude.{ℕ, List, Option}
 use Rattle.bank.specs.Banks.{Sound}
 use Rattle.bank.specs.declared.word.Cell.{Cell}
 use Rattle.pacing.specs.declared.effort.Effort.{Effort}
@@ -37,10 +37,6 @@ meant limit cells coded valued floor s = record {
   registers = s.registers.words;
   phase = s.phase;
 }
-
--- What the start rule says of the free count, should the next turn ask it.
-abbrev pub rule_says : {B K R : Type 0} → (R → ℕ → Bool) → Store B K R → Bool
-rule_says says s = says s.rule s.pool.count
 
 -- What the interfaces promise of any store: the bank's law, and the effort's bounds from below.
 pub grounded-by : {B K R V : Type 0} (limit : B → ℕ) (cells : B → List Cell) (coded : K → V → ℕ) (valued : K → ℕ → Option V) (floor : R → ℕ) → ((b : B) → Sound (limit b) (cells b))

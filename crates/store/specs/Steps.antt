@@ -1,11 +1,9 @@
 -- The parts of a turn: the share of work that its phase has, whether the phase is over, and the next phase.
-use Rattle.std.specs.Prelude.{ℕ, Bool, true, false, length, Some, None, Option, nat_le}
-use Rattle.collector.specs.declared.call.Call.{Call}
+use Rattle.std.specs.Prelude.{Bool, true, false, length, nat_le}
 use Rattle.collector.specs.declared.phase.Phase.{Phase}
 use Rattle.collector.specs.Lists.{is_empty}
 use Rattle.collector.specs.States.{State}
 use Rattle.collector.specs.Turns.{Ground, ground, scans, sweeps, begun}
-use Rattle.collector.specs.Outcomes.{registers_of, absent}
 use Rattle.collector.specs.Calls.{with_heap}
 
 abbrev pub with_phase : {V : Type 0} → Phase → State V → State V
@@ -46,25 +44,3 @@ moved_in Phase.Mark true s = with_phase Phase.Sweep s
 moved_in Phase.Mark false s = s
 moved_in Phase.Sweep true s = with_phase Phase.Idle s
 moved_in Phase.Sweep false s = s
-
-abbrev pub is_idle : Phase → Bool
-is_idle Phase.Idle = true
-is_idle Phase.Mark = false
-is_idle Phase.Sweep = false
-
--- Whether a call asks the start rule: a cons whose registers are there does, on an idle store.
-abbrev pub asks_if : {V : Type 0} → Option ℕ → Call V → Phase → Bool
-asks_if (Some r) c phase = false
-asks_if None (Call.Load i v) phase = false
-asks_if None (Call.Clear i) phase = false
-asks_if None (Call.Copy i a) phase = false
-asks_if None (Call.Cons i a b) phase = is_idle phase
-asks_if None (Call.Car i a) phase = false
-asks_if None (Call.Cdr i a) phase = false
-asks_if None (Call.Rplaca a b) phase = false
-asks_if None (Call.Rplacd a b) phase = false
-asks_if None (Call.Look i) phase = false
-asks_if None (Call.Same i j) phase = false
-
-abbrev pub asks : {V : Type 0} → State V → Call V → Bool
-asks s c = asks_if (absent (registers_of c)) c s.phase

@@ -26,7 +26,7 @@ pub type Run<S, V> = Result<(Vec<Outcome<V>>, S), RunFault<S, V>>;
 
 // Makes every call in order; a store that is new makes a run.
 fn finish<S: ListStore>(heap: Global, mut store: S, calls: &[Call<S::Value>]) -> Run<S, S::Value>
-    ensures law { (fixed : Fixed S.Value) (size : ℕ) → S.state store ≡ new fixed size → Ran fixed size calls.now S.state result }
+    ensures law { (fixed : Fixed S.Value) (size : ℕ) → S.state store ≡ new fixed size → Ran S.says S.becomes fixed size (S.rule store) calls.now S.state S.rule result }
     ensures kind { S.kind (store_of result) ≡ S.kind store }
 {
     let mut outcomes = Vec::new(heap);
@@ -52,7 +52,8 @@ pub fn run<B: Bank, K: Kind, R: StartRule>(
     effort: Effort,
     calls: &[Call<K::Value>],
 ) -> Run<Store<B, K, R>, K::Value>
-    ensures law { Ran (fixed_by B.limit K.coded K.valued R.floor bank kind rule effort) (length (B.cells bank)) calls.now ⟦<Store<B, K, R> as ListStore>⟧.state result }
+    ensures law { Ran R.says R.becomes (fixed_by B.limit K.coded K.valued R.floor bank kind rule effort) (length (B.cells bank)) rule calls.now
+            ⟦<Store<B, K, R> as ListStore>⟧.state ⟦<Store<B, K, R> as ListStore>⟧.rule result }
     ensures kind { (store_of result).kind ≡ kind }
 {
     let store = Store::new(bank, kind, rule, effort);

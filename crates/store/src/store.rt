@@ -3,11 +3,12 @@ ghost use Rattle.std.specs.Prelude.{◌≡◌, false, length, ◌==◌};
 ghost use Rattle.collector.specs.States.{new as new_state};
 ghost use Rattle.collector.specs.Turns.{begun, turn, work as work_of};
 ghost use Rattle.collector.specs.Calls.{call, with_heap, offer_in, take_from};
+ghost use Rattle.collector.specs.Runs.{RuleAfter, is_idle};
 ghost use Rattle.collector.specs.declared.call.Answer.{Answer};
 ghost use Rattle.store.specs.Answers.{outcome_by, outcome_of};
 ghost use Rattle.store.specs.Halves.{reading, replacing};
 ghost use Rattle.store.specs.Meaning.{fixed_by};
-ghost use Rattle.store.specs.Steps.{with_phase, shared, over, is_idle};
+ghost use Rattle.store.specs.Steps.{with_phase, shared, over};
 
 use crate::half::Half;
 use crate::heap::Heap;
@@ -112,9 +113,9 @@ impl<B: Bank, K: Kind, R: StartRule> Store<B, K, R> {
     // Whether the phase is over. Only an idle store asks its start rule, since a question may change later answers.
     fn is_over(&mut self) -> bool
         ensures state { ⟦<Self as ListStore>⟧.state self.new ≡ ⟦<Self as ListStore>⟧.state self.old }
-        ensures answer { result ≡ over (⟦<Self as ListStore>⟧.says self.old) (⟦<Self as ListStore>⟧.state self.old) }
+        ensures answer { result ≡ over (R.says self.old.rule self.old.pool.count) (⟦<Self as ListStore>⟧.state self.old) }
         ensures kind { self.new.kind ≡ self.old.kind }
-        ensures rule { is_idle self.old.phase ≡ false → self.new.rule ≡ self.old.rule }
+        ensures rule { RuleAfter R.becomes (is_idle self.old.phase) self.old.rule self.old.pool.count self.new.rule }
     {
         match self.phase {
             Phase::Idle => self.rule.ask(self.pool.count),
@@ -126,10 +127,10 @@ impl<B: Bank, K: Kind, R: StartRule> Store<B, K, R> {
     // A turn of the collector; its work.
     fn turn(&mut self) -> u32
         ensures state { ⟦<Self as ListStore>⟧.state self.new ≡
-            turn (⟦<Self as ListStore>⟧.says self.old) (⟦<Self as ListStore>⟧.state self.old) }
+            turn (R.says self.old.rule self.old.pool.count) (⟦<Self as ListStore>⟧.state self.old) }
         ensures work { result ≡ work_of (⟦<Self as ListStore>⟧.state self.old) }
         ensures kind { self.new.kind ≡ self.old.kind }
-        ensures rule { is_idle self.old.phase ≡ false → self.new.rule ≡ self.old.rule }
+        ensures rule { RuleAfter R.becomes (is_idle self.old.phase) self.old.rule self.old.pool.count self.new.rule }
     {
         let work = self.share();
         let over = self.is_over();
@@ -184,9 +185,9 @@ impl<B: Bank, K: Kind, R: StartRule> Store<B, K, R> {
     // Copies a word of the cell in register a into register i.
     fn read(&mut self, half: Half, i: u32, a: u32) -> Result<(), StoreFault>
         ensures state { ⟦<Self as ListStore>⟧.state self.new ≡
-            (call (⟦<Self as ListStore>⟧.says self.old) (⟦<Self as ListStore>⟧.state self.old) (reading half i a)).state }
+            (call (R.says self.old.rule self.old.pool.count) (⟦<Self as ListStore>⟧.state self.old) (reading half i a)).state }
         ensures answer { outcome_of result ≡
-            (call (⟦<Self as ListStore>⟧.says self.old) (⟦<Self as ListStore>⟧.state self.old) (reading half i a)).outcome }
+            (call (R.says self.old.rule self.old.pool.count) (⟦<Self as ListStore>⟧.state self.old) (reading half i a)).outcome }
         ensures kind { self.new.kind ≡ self.old.kind }
         ensures rule { self.new.rule ≡ self.old.rule }
     {
@@ -202,9 +203,9 @@ impl<B: Bank, K: Kind, R: StartRule> Store<B, K, R> {
     // Puts register b's word into the cell in register a.
     fn replace(&mut self, half: Half, a: u32, b: u32) -> Result<(), StoreFault>
         ensures state { ⟦<Self as ListStore>⟧.state self.new ≡
-            (call (⟦<Self as ListStore>⟧.says self.old) (⟦<Self as ListStore>⟧.state self.old) (replacing half a b)).state }
+            (call (R.says self.old.rule self.old.pool.count) (⟦<Self as ListStore>⟧.state self.old) (replacing half a b)).state }
         ensures answer { outcome_of result ≡
-            (call (⟦<Self as ListStore>⟧.says self.old) (⟦<Self as ListStore>⟧.state self.old) (replacing half a b)).outcome }
+            (call (R.says self.old.rule self.old.pool.count) (⟦<Self as ListStore>⟧.state self.old) (replacing half a b)).outcome }
         ensures kind { self.new.kind ≡ self.old.kind }
         ensures rule { self.new.rule ≡ self.old.rule }
     {

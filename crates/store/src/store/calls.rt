@@ -1,5 +1,5 @@
 // The ten calls, and what is read of a store.
-ghost use Rattle.store.specs.Meaning.{meant, rule_says, grounded-by};
+ghost use Rattle.store.specs.Meaning.{meant, grounded-by};
 
 use super::Store;
 use crate::half::Half;
@@ -18,7 +18,9 @@ impl<B: Bank, K: Kind, R: StartRule> ListStore for Store<B, K, R> {
 
     ghost state = { meant B.Bank.limit B.Bank.cells K.Kind.coded K.Kind.valued R.StartRule.floor };
 
-    ghost says = { rule_says R.StartRule.says };
+    ghost says = { R.StartRule.says };
+
+    ghost becomes = { R.StartRule.becomes };
 
     ghost kind = { λ s. s.kind };
 

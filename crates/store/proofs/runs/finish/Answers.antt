@@ -5,40 +5,44 @@ use Rattle.store.proofs.runs.finish.Goals as goal
 
 pub loop-call-init : goal.loop-call-init
 loop-call-init g c =
-    let m = g.S.ListStore.state c.args.store in
+    let l = g.S.ListStore in
+    let m = l.state c.args.store in
     let ground = g.met.S.ListStore.grounded c.args.store in (
-      λ fixed size e. run-as fixed size m [] [] [] (vec_items c.new-outcomes.result) refl (sym c.new-outcomes.ensures.items) (run_none fixed size (grounded-new fixed size m e ground) m e),
+      λ fixed size e. run-as l.says l.becomes fixed size (l.rule c.args.store) m (l.rule c.args.store) [] [] [] (vec_items c.new-outcomes.result) refl (sym c.new-outcomes.ensures.items)
+          (run_none l.says l.becomes fixed size (l.rule c.args.store) (grounded-new fixed size m e ground) m e),
       refl,
     )
 
 pub loop-call-preserved : goal.loop-call-preserved
 loop-call-preserved g c =
-    let m = g.S.ListStore.state in
+    let l = g.S.ListStore in
     let s = c.loop-call.store in
+    let t = c.apply-outcome.new.self in
     let ground = g.met.S.ListStore.grounded c.args.store in (
-      λ fixed size e. run-next fixed size (grounded-new fixed size (m c.args.store) e ground) c.args.calls.now c.loop-call.call-index (vec_items c.loop-call.outcomes) (vec_items c.push.new.self)
-          (m s) (m c.apply-outcome.new.self) c.call-item.result c.apply-outcome.result (g.S.ListStore.says s)
+      λ fixed size e. run-next l.says l.becomes fixed size (l.rule c.args.store) (grounded-new fixed size (l.state c.args.store) e ground) c.args.calls.now c.loop-call.call-index
+          (vec_items c.loop-call.outcomes) (vec_items c.push.new.self) (l.state s) (l.state t) (l.rule s) (l.rule t) c.call-item.result c.apply-outcome.result
           c.loop-call-test.true c.call-item.is c.in_default.ensures.items (g.met.S.ListStore.keeps s)
-          c.apply-outcome.ensures.state c.apply-outcome.ensures.answer (c.loop-call.invariant.0 fixed size e),
+          c.apply-outcome.ensures.state c.apply-outcome.ensures.answer c.apply-outcome.ensures.rule (c.loop-call.invariant.0 fixed size e),
       c.apply-outcome.ensures.kind ∙ c.loop-call.invariant.1,
     )
 
 pub returns-in-Err-clause-law : goal.returns-in-Err-clause-law
 returns-in-Err-clause-law g c =
-    let m = g.S.ListStore.state in
+    let l = g.S.ListStore in
     let s = c.loop-call.store in
+    let t = c.apply-outcome.new.self in
     let ground = g.met.S.ListStore.grounded c.args.store in
     let p = c.in-Err.ensures in
     λ fixed size e. (
       c.loop-call.call-index + 1,
-      run-next fixed size (grounded-new fixed size (m c.args.store) e ground) c.args.calls.now c.loop-call.call-index (vec_items c.loop-call.outcomes) (vec_items c.push.new.self ++ c.in-Err.refused.value ∷ [])
-          (m s) (m c.apply-outcome.new.self) c.call-item.result c.apply-outcome.result (g.S.ListStore.says s)
+      run-next l.says l.becomes fixed size (l.rule c.args.store) (grounded-new fixed size (l.state c.args.store) e ground) c.args.calls.now c.loop-call.call-index
+          (vec_items c.loop-call.outcomes) (vec_items c.push.new.self ++ c.in-Err.refused.value ∷ []) (l.state s) (l.state t) (l.rule s) (l.rule t) c.call-item.result c.apply-outcome.result
           c.loop-call-test.true c.call-item.is
           (rw (p.items, p.value_returned) refl)
           (g.met.S.ListStore.keeps s)
-          c.apply-outcome.ensures.state c.apply-outcome.ensures.answer (c.loop-call.invariant.0 fixed size e),
+          c.apply-outcome.ensures.state c.apply-outcome.ensures.answer c.apply-outcome.ensures.rule (c.loop-call.invariant.0 fixed size e),
     )
 
 pub returns-clause-law : goal.returns-clause-law
 returns-clause-law g c =
-    λ fixed size e. run-as fixed size _ _ _ _ _ (take_all c.loop-call.call-index c.args.calls.now c.loop-call-test.false) refl (c.loop-call.invariant.0 fixed size e)
+    λ fixed size e. run-as _ _ fixed size _ _ _ _ _ _ _ (take_all c.loop-call.call-index c.args.calls.now c.loop-call-test.false) refl (c.loop-call.invariant.0 fixed size e)
