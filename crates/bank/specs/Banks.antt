@@ -1,5 +1,5 @@
 -- What a bank of the given limit and cells answers, and its cells afterwards.
-use Rattle.std.specs.Prelude.{ℕ, ◌≤◌, Bool, cond, List, length, Ok, Err, Result, nat_le, nat_lt, slice_index_or, slice_set}
+use Rattle.std.specs.Prelude.{ℕ, ◌≤◌, Bool, if◌then◌else◌, List, length, Ok, Err, Result, nat_le, nat_lt, slice_index_or, slice_set}
 use Rattle.bank.specs.declared.word.Word.{Word}
 use Rattle.bank.specs.declared.word.Cell.{Cell}
 use Rattle.bank.specs.declared.word.Change.{Change}
@@ -16,11 +16,11 @@ fits limit w = nat_le (number_of w) limit
 
 -- A call on cell n: refused where there is none, and otherwise answered with r.
 abbrev pub on_cell : {A : Type 0} → List Cell → ℕ → Result A BankFault → Result A BankFault
-on_cell cells n r = cond (nat_lt n (length cells)) r (Err (BankFault.NoSuchCell n))
+on_cell cells n r = if nat_lt n (length cells) then r else Err (BankFault.NoSuchCell n)
 
 -- A call with a word: refused where its number lies above the limit, and otherwise answered with r.
 abbrev pub taken : {A : Type 0} → ℕ → Word → Result A BankFault → Result A BankFault
-taken limit w r = cond (fits limit w) r (Err (BankFault.WordTooWide (number_of w)))
+taken limit w r = if fits limit w then r else Err (BankFault.WordTooWide (number_of w))
 
 abbrev pub asked : List Cell → ℕ → Result Cell BankFault
 asked cells n = on_cell cells n (Ok (slice_index_or cells n blank))
@@ -40,7 +40,7 @@ changed f cells n = slice_set cells n (f (slice_index_or cells n blank))
 
 -- A word put into a field, or the cells as they are where it does not fit.
 abbrev pub word_put : (Word → Cell → Cell) → ℕ → List Cell → ℕ → Word → List Cell
-word_put put limit cells n w = cond (fits limit w) (changed (put w) cells n) cells
+word_put put limit cells n w = if fits limit w then changed (put w) cells n else cells
 
 -- A change of cell n: refused where there is no such cell or its word does not fit, and the cells then as they are.
 abbrev pub change_taken : ℕ → List Cell → ℕ → Change → Result (Unit {0}) BankFault

@@ -1,5 +1,5 @@
 -- A chain of atoms: cells whose cars hold the atoms, each cdr naming the next, nil in the last.
-use Rattle.std.specs.Prelude.{ℕ, zero, suc, ◌+◌, false, cond, List, [], ◌∷◌, ◌++◌, length, take, drop, Ok, Err, Result, nat_lt, slice_index_or}
+use Rattle.std.specs.Prelude.{ℕ, zero, suc, ◌+◌, false, if◌then◌else◌, List, [], ◌∷◌, ◌++◌, length, take, drop, Ok, Err, Result, nat_lt, slice_index_or}
 use Rattle.bank.specs.declared.word.Word.{Word}
 use Rattle.bank.specs.declared.word.Cell.{Cell}
 use Rattle.bank.specs.declared.fault.BankFault.{BankFault}
@@ -19,7 +19,7 @@ chain n (a ∷ xs) = record { car = Word.Atom a; cdr = link n xs; mark = false }
 -- Whether a bank of this limit and size takes the chain: the first refusal on the way, or the number of the next cell.
 abbrev pub chain_taken : ℕ → ℕ → ℕ → List ℕ → Result ℕ BankFault
 chain_taken limit size n [] = Ok n
-chain_taken limit size n (a ∷ xs) = cond (nat_lt n size) (taken limit (Word.Atom a) (chain_taken limit size (suc n) xs)) (Err (BankFault.NoSuchCell n))
+chain_taken limit size n (a ∷ xs) = if nat_lt n size then taken limit (Word.Atom a) (chain_taken limit size (suc n) xs) else Err (BankFault.NoSuchCell n)
 
 -- The cells with these in the place of those from n on.
 abbrev pub placed : List Cell → ℕ → List Cell → List Cell
@@ -35,6 +35,6 @@ atom_in Word.Reserved = []
 abbrev pub atoms_from : ℕ → List Cell → Word → List ℕ
 atoms_from zero cells w = []
 atoms_from (suc k) cells Word.Nil = []
-atoms_from (suc k) cells (Word.Cell n) = cond (nat_lt n (length cells)) (atom_in (slice_index_or cells n blank).car ++ atoms_from k cells (slice_index_or cells n blank).cdr) []
+atoms_from (suc k) cells (Word.Cell n) = if nat_lt n (length cells) then atom_in (slice_index_or cells n blank).car ++ atoms_from k cells (slice_index_or cells n blank).cdr else []
 atoms_from (suc k) cells (Word.Atom c) = []
 atoms_from (suc k) cells Word.Reserved = []

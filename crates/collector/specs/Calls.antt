@@ -1,5 +1,5 @@
 -- The ten calls of a store.
-use Rattle.std.specs.Prelude.{ℕ, ◌-◌, Bool, true, false, cond, List, Some, None, Ok, Err, Option, Result, ◌==◌, nat_le, slice_set}
+use Rattle.std.specs.Prelude.{ℕ, ◌-◌, Bool, true, false, if◌then◌else◌, List, Some, None, Ok, Err, Option, Result, ◌==◌, nat_le, slice_set}
 use Rattle.bank.specs.Words.{with_car, with_cdr, with_mark}
 use Rattle.bank.specs.Banks.{fits, on_cell, taken, asked, changed, word_put, word_taken}
 use Rattle.bank.specs.declared.fault.BankFault.{BankFault}
@@ -51,7 +51,7 @@ filling limit cells h a b = on_cell cells h (taken limit a (taken limit b (Ok tt
 
 abbrev pub filled : ℕ → List Cell → ℕ → Word → Word → Bool → List Cell
 filled limit cells h a b m =
-    cond (fits limit a) (cond (fits limit b) (changed (with_mark m) (changed (with_cdr b) (changed (with_car a) cells h) h) h) (changed (with_car a) cells h)) cells
+    if fits limit a then (if fits limit b then changed (with_mark m) (changed (with_cdr b) (changed (with_car a) cells h) h) h else changed (with_car a) cells h) else cells
 
 -- The head h of the free list leaves it for register i, with the words a and b, marked exactly from the sweeper on.
 abbrev pub unlinked : {V : Type 0} → ℕ → State V → Pool

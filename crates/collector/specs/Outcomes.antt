@@ -1,5 +1,5 @@
 -- What a call comes to, in a store as in the endless heap, as far as registers and words decide it.
-use Rattle.std.specs.Prelude.{ℕ, Bool, true, false, cond, List, [], ◌∷◌, Some, None, Ok, Err, Option, Result, ◌==◌, nat_lt, slice_index_or}
+use Rattle.std.specs.Prelude.{ℕ, Bool, true, false, if◌then◌else◌, List, [], ◌∷◌, Some, None, Ok, Err, Option, Result, ◌==◌, nat_lt, slice_index_or}
 use Rattle.bank.specs.declared.word.Word.{Word}
 use Rattle.collector.specs.declared.call.Call.{Call}
 use Rattle.collector.specs.declared.call.Answer.{Answer}
@@ -41,7 +41,7 @@ registers_of (Call.Same i j) = i ∷ j ∷ []
 -- The first of these numbers that is no register's: there are sixteen.
 abbrev pub absent : List ℕ → Option ℕ
 absent [] = None
-absent (r ∷ rs) = cond (nat_lt r 16) (absent rs) (Some r)
+absent (r ∷ rs) = if nat_lt r 16 then absent rs else Some r
 
 abbrev pub register : List Word → ℕ → Word
 register registers r = slice_index_or registers r Word.Nil

@@ -1,5 +1,5 @@
 -- A turn of the collector: a snapshot is marked, then the bank is swept, a few cells at a time.
-use Rattle.std.specs.Prelude.{ℕ, zero, suc, ◌+◌, ◌-◌, min, Bool, true, false, cond, List, [], ◌∷◌, ◌++◌, length, nat_le, nat_lt}
+use Rattle.std.specs.Prelude.{ℕ, zero, suc, ◌+◌, ◌-◌, min, Bool, true, false, if◌then◌else◌, List, [], ◌∷◌, ◌++◌, length, nat_le, nat_lt}
 use Rattle.bank.specs.Words.{with_car, with_cdr, with_mark}
 use Rattle.bank.specs.Banks.{changed, word_put}
 use Rattle.bank.specs.declared.word.Word.{Word}
@@ -10,7 +10,7 @@ use Rattle.collector.specs.States.{Heap, Pool, State, roots, at}
 
 -- The waiting stack has room for 4,096 numbers.
 abbrev pub pushed : ℕ → List ℕ → List ℕ
-pushed n stack = cond (nat_lt (length stack) 4096) (n ∷ stack) stack
+pushed n stack = if nat_lt (length stack) 4096 then n ∷ stack else stack
 
 -- To offer a word is to mark and push the cell that it names, if that is unmarked.
 abbrev pub offer_if : Bool → ℕ → Heap → Heap
@@ -51,7 +51,7 @@ scanned (suc k) h = latest h.stack ++ scanned k (scan h)
 
 -- The count of free cells goes up to 4,096, the most that a bank has.
 abbrev pub raised : ℕ → ℕ
-raised count = cond (nat_lt count 4096) (count + 1) count
+raised count = if nat_lt count 4096 then count + 1 else count
 
 -- What a sweep changes.
 pub record Ground : Type 0 where
@@ -123,7 +123,7 @@ after_scans s h = record {
   heap = h;
   pool = s.pool;
   registers = s.registers;
-  phase = cond (is_empty h.stack) Phase.Sweep Phase.Mark;
+  phase = if is_empty h.stack then Phase.Sweep else Phase.Mark;
 }
 
 abbrev pub marked : {V : Type 0} → State V → State V
@@ -136,7 +136,7 @@ after_sweeps s g = record {
   heap = record { cells = g.cells; stack = s.heap.stack };
   pool = g.pool;
   registers = s.registers;
-  phase = cond (nat_le (length g.cells) g.pool.sweeper) Phase.Idle Phase.Sweep;
+  phase = if nat_le (length g.cells) g.pool.sweeper then Phase.Idle else Phase.Sweep;
 }
 
 abbrev pub ground : {V : Type 0} → State V → Ground

@@ -1,5 +1,5 @@
 -- Cells kept in 16 places over a list of cells. Place i is for the cells n with n mod 16 = i; it keeps a cell with its row, n div 16.
-use Rattle.std.specs.Prelude.{◌≡◌, ℕ, suc, ◌+◌, ◌*◌, ◌/◌, ◌%◌, cond, Option, None, Some, List, [], ◌∷◌, length, replicate, ◌==◌, slice_index_or, refl}
+use Rattle.std.specs.Prelude.{◌≡◌, ℕ, suc, ◌+◌, ◌*◌, ◌/◌, ◌%◌, if◌then◌else◌, Option, None, Some, List, [], ◌∷◌, length, replicate, ◌==◌, slice_index_or, refl}
 use Rattle.std.proofs.Common.{ap}
 use Rattle.bank.specs.declared.word.Word.{Word}
 use Rattle.bank.specs.declared.word.Cell.{Cell}
@@ -16,7 +16,7 @@ kept_for n cell = Some (record { row = n / 16; cell = cell })
 
 -- A kept word, or the word below where the kept one does not fit.
 abbrev pub fitted : ℕ → Word → Word → Word
-fitted limit kept below = cond (fits limit kept) kept below
+fitted limit kept below = if fits limit kept then kept else below
 
 -- A kept cell laid over the cell below, word by word.
 abbrev pub merged : ℕ → Cell → Cell → Cell
@@ -29,7 +29,7 @@ merged limit kept below = record {
 -- What a place lets see of cell n, given the cell below.
 abbrev pub seen_at : ℕ → Option Kept → ℕ → Cell → Cell
 seen_at limit None n below = below
-seen_at limit (Some kept) n below = cond (kept.row == n / 16) (merged limit kept.cell below) below
+seen_at limit (Some kept) n below = if kept.row == n / 16 then merged limit kept.cell below else below
 
 abbrev pub seen : ℕ → List (Option Kept) → ℕ → Cell → Cell
 seen limit places n below = seen_at limit (slice_index_or places (n % 16) None) n below
@@ -54,7 +54,7 @@ spilled limit (Some kept) i below = changed (merged limit kept.cell) below (kept
 -- The same, where the place keeps a cell of another number than n.
 unfoldable pub evicted : ℕ → Option Kept → ℕ → List Cell → List Cell
 evicted limit None n below = below
-evicted limit (Some kept) n below = cond (kept.row == n / 16) below (spilled limit (Some kept) (n % 16) below)
+evicted limit (Some kept) n below = if kept.row == n / 16 then below else spilled limit (Some kept) (n % 16) below
 
 length_from : (limit : ℕ) (places : List (Option Kept)) (n : ℕ) (below : List Cell) → length (held_from limit places n below) ≡ length below
 length_from limit places n [] = refl

@@ -1,5 +1,5 @@
 -- Two lists of cells as one.
-use Rattle.std.specs.Prelude.{ℕ, ◌-◌, min, cond, List, ◌++◌, take, drop, nat_lt}
+use Rattle.std.specs.Prelude.{ℕ, ◌-◌, min, if◌then◌else◌, List, ◌++◌, take, drop, nat_lt}
 use Rattle.std.proofs.Common.{arith, length-take}
 use Rattle.bank.specs.declared.word.Cell.{Cell}
 use Rattle.bank.specs.Banks.{Sound}
@@ -16,7 +16,7 @@ beyond first second = drop 4096 (first ++ second)
 
 -- Where cell n lies, when the first list has k cells.
 abbrev pub side_of : ℕ → ℕ → Side
-side_of k n = cond (nat_lt n k) (Side.First n) (Side.Second (n - k))
+side_of k n = if nat_lt n k then Side.First n else Side.Second (n - k)
 
 -- What a join shows and takes, by what its two banks do.
 abbrev pub join_cells : {F G : Type 0} → (F → List Cell) → (G → List Cell) → Join F G → List Cell

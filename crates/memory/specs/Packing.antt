@@ -1,6 +1,6 @@
 -- A cell as one number: the car in bits 0 to 29, the cdr in bits 30 to 59, the mark in bit 60, zeros above.
 -- Of a word the number lies in bits 0 to 27, and its kind above them.
-use Rattle.std.specs.Prelude.{◌≡◌, ℕ, zero, suc, ◌+◌, ◌*◌, ◌/◌, ◌%◌, ◌^◌, Bool, true, cond, Ok, Result, ◌==◌}
+use Rattle.std.specs.Prelude.{◌≡◌, ℕ, zero, suc, ◌+◌, ◌*◌, ◌/◌, ◌%◌, ◌^◌, Bool, true, if◌then◌else◌, Ok, Result, ◌==◌}
 use Rattle.bank.specs.declared.word.Word.{Word}
 use Rattle.bank.specs.declared.word.Cell.{Cell}
 use Rattle.bank.specs.declared.fault.BankFault.{BankFault}
@@ -32,7 +32,7 @@ word_of (suc (suc zero)) n = Word.Atom n
 word_of (suc (suc (suc k))) n = Word.Reserved
 
 abbrev pub mark_bit : Bool → ℕ
-mark_bit m = cond m 1 0
+mark_bit m = if m then 1 else 0
 
 abbrev pub word_bits : Word → ℕ
 word_bits w = above (kind_of w) 28 (number_of w)

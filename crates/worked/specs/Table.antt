@@ -1,5 +1,5 @@
 -- A table of worked cases: in each row what the definitions give, and what it is, as numbers.
-use Rattle.std.specs.Prelude.{◌≡◌, ℕ, Bool, true, false, cond, List, [], ◌∷◌, map, length, replicate, Some, None, Ok, Err, Option}
+use Rattle.std.specs.Prelude.{◌≡◌, ℕ, Bool, true, false, if◌then◌else◌, List, [], ◌∷◌, map, length, replicate, Some, None, Ok, Err, Option}
 use Rattle.atoms.specs.Aspects.{aspect_of}
 use Rattle.atoms.specs.Refusals.{told as zone_told}
 use Rattle.atoms.specs.Zones.{zone_at, zone_code, zone_of, covered}
@@ -27,7 +27,7 @@ abbrev pub refusal : ℕ × List ℕ → List ℕ
 refusal (number, values) = number ∷ values
 
 abbrev pub bit : Bool → List ℕ
-bit b = cond b 1 0 ∷ []
+bit b = (if b then 1 else 0) ∷ []
 
 -- The code of the zone of a pair, or the refusal.
 abbrev pub code_or : ℕ → ℕ → Option Zone → List ℕ
