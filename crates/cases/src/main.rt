@@ -1,8 +1,13 @@
 // cases: works through the examples of the rules, and prints what each call answers and what the store then holds.
 #![tactic(auto)]
 
+mod layered;
+mod paces;
+mod plans;
 mod refusals;
 mod replacing;
+mod runs;
+mod signals;
 mod sizes;
 mod sweeping;
 mod text;
@@ -11,5 +16,10 @@ fn main(rt: HostRuntime) -> anyhow::Result<()> {
     refusals::work(&rt)?;
     sizes::work(&rt)?;
     replacing::work(&rt)?;
-    sweeping::work(&rt)
+    sweeping::work(&rt)?;
+    paces::work(&rt)?;
+    signals::work(&rt)?;
+    layered::work(&rt)?;
+    plans::work(&rt)?;
+    runs::work(&rt)
 }

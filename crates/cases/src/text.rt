@@ -57,7 +57,7 @@ impl fmt::Display for CellText {
 }
 
 // Where a store's collector stands.
-#[derive(Clone, Copy)]
+#[derive(Clone, Copy, PartialEq, Eq)]
 pub struct Place {
     phase: Phase,
     sweeper: u32,
