@@ -2,6 +2,8 @@
 #![tactic(auto)]
 
 mod layered;
+mod looks;
+mod marking;
 mod paces;
 mod plans;
 mod refusals;
@@ -14,8 +16,10 @@ mod text;
 
 fn main(rt: HostRuntime) -> anyhow::Result<()> {
     refusals::work(&rt)?;
+    looks::work(&rt)?;
     sizes::work(&rt)?;
     replacing::work(&rt)?;
+    marking::work(&rt)?;
     sweeping::work(&rt)?;
     paces::work(&rt)?;
     signals::work(&rt)?;

@@ -81,14 +81,14 @@ fn new_word<B: Bank + Drop>(rt: &HostRuntime, bank: B) -> anyhow::Result<()> {
     show(rt, &store, &[0, 2])
 }
 
-// First ahead of the sweeper, then behind it.
+// First ahead of the sweeper, then behind it, where the old word names an unmarked cell: it stays unmarked.
 fn sweeping<B: Bank + Drop>(rt: &HostRuntime, bank: B) -> anyhow::Result<()> {
     println!(rt; "replacing: sweeping")?;
     let mut store = zone_store(bank, 4, 64, 2)?;
     begin(rt, &mut store)?;
     repeat(rt, &mut store, 1, &Call::Cons(2, 15, 15))?;
     show(rt, &store, &[0, 1])?;
-    make(rt, &mut store, &[Call::Rplaca(0, 2)])?;
+    make(rt, &mut store, &[Call::Rplacd(0, 2)])?;
     show(rt, &store, &[0, 1])?;
     make(
         rt,
