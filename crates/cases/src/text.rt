@@ -3,7 +3,7 @@ use anyhow::anyhow;
 use atoms::Zone;
 use atoms::zones::Zones;
 use bank::{Bank, Cell, Word};
-use collector::{Call, Phase, StoreFault};
+use collector::{Call, Phase};
 use pacing::effort::Effort;
 use pacing::fault::EffortFault;
 use pacing::floor::FloorRule;
