@@ -20,6 +20,7 @@ fn takes_digit(n: u32) -> bool
 
 impl Scanner<'_> {
     // A number with so many numbers after it, and the byte that ends it.
+    #[inline(always)]
     fn number(&mut self, left: usize) -> Result<u32, Mismatch>
         ensures { Scans (Numbers (suc left)) (NumberAt left) self.old self.new result }
     {
@@ -33,6 +34,7 @@ impl Scanner<'_> {
     }
 
     // So many numbers up to the line's end.
+    #[inline(always)]
     pub fn numbers<const N: usize>(&mut self) -> Result<[u32; N], Mismatch>
         ensures { Scans (Numbers N) (NumbersAt N) self.old self.new result }
     {

@@ -1,5 +1,5 @@
 // The name that a line begins with.
-ghost use Rattle.std.specs.Prelude.{◌≡◌, ◌≤◌, length, IfSome};
+ghost use Rattle.std.specs.Prelude.{◌≡◌, ◌≤◌, length, false, IfSome};
 ghost use Rattle.plan.specs.Names.{table, agree, found, closest};
 ghost use Rattle.plan.specs.Verbs.{word};
 ghost use Rattle.plan.specs.Readings.{Written};
@@ -57,9 +57,30 @@ fn closest(verbs: &[Verb], text: &[u8]) -> usize
         .unwrap_or(0)
 }
 
+// The verb of a later line and what comes after its word. All at once, where a search would compare the text with word after word.
+#[inline(always)]
+fn later(text: &[u8]) -> Option<(Verb, &[u8])>
+    ensures { IfSome result (λ r. NameAt false text.now r.0 r.1.now) }
+{
+    match text {
+        [b'l', b'o', b'a', b'd', b' ', rest @ ..] => Some((Verb::Load, rest)),
+        [b'c', b'l', b'e', b'a', b'r', b' ', rest @ ..] => Some((Verb::Clear, rest)),
+        [b'c', b'o', b'p', b'y', b' ', rest @ ..] => Some((Verb::Copy, rest)),
+        [b'c', b'o', b'n', b's', b' ', rest @ ..] => Some((Verb::Cons, rest)),
+        [b'c', b'a', b'r', b' ', rest @ ..] => Some((Verb::Car, rest)),
+        [b'c', b'd', b'r', b' ', rest @ ..] => Some((Verb::Cdr, rest)),
+        [b'r', b'p', b'l', b'a', b'c', b'a', b' ', rest @ ..] => Some((Verb::Rplaca, rest)),
+        [b'r', b'p', b'l', b'a', b'c', b'd', b' ', rest @ ..] => Some((Verb::Rplacd, rest)),
+        [b'l', b'o', b'o', b'k', b' ', rest @ ..] => Some((Verb::Look, rest)),
+        [b's', b'a', b'm', b'e', b' ', rest @ ..] => Some((Verb::Same, rest)),
+        _ => None,
+    }
+}
+
 impl Scanner<'_> {
-    // The name of a call and the space after it.
-    pub fn verb(&mut self, first: bool) -> Result<Verb, Mismatch>
+    // The name of a call and the space after it, by a search among those that may stand there.
+    #[cold]
+    fn search(&mut self, first: bool) -> Result<Verb, Mismatch>
         ensures { Scans (Written first) (NameAt first) self.old self.new result }
     {
         let verbs = verbs(first);
@@ -69,6 +90,21 @@ impl Scanner<'_> {
             return Err(Mismatch);
         };
         self.rest = &self.rest[verb.word().len()..];
+        Ok(verb)
+    }
+
+    // The name of a call and the space after it.
+    #[inline(always)]
+    pub fn verb(&mut self, first: bool) -> Result<Verb, Mismatch>
+        ensures { Scans (Written first) (NameAt first) self.old self.new result }
+    {
+        if first {
+            return self.search(true);
+        }
+        let Some((verb, rest)) = later(self.rest) else {
+            return self.search(false);
+        };
+        self.rest = rest;
         Ok(verb)
     }
 }

@@ -12,6 +12,9 @@ use std::alloc::{AllocError, Global};
 // The most bytes that a plan has.
 pub const LIMIT: usize = 32_768;
 
+// The fewest bytes that a line has.
+const FEWEST: usize = 7;
+
 // The lines of a plan up to its end, or up to the fault that ends it.
 #[derive(PartialEq, Eq, Debug, Drop)]
 pub struct Reading {
@@ -20,6 +23,7 @@ pub struct Reading {
 }
 
 // The line that comes, a plan's first or a later one.
+#[inline(always)]
 fn line(text: &mut Scanner, first: bool) -> Result<Line, Mismatch>
     ensures { Scans (Written first) (LineAt first) text.old text.new result }
 {
@@ -42,7 +46,7 @@ fn read_lines(heap: Global, bytes: &[u8]) -> Result<Reading, AllocError>
     requires { length bytes.now ≤ 32768 }
     ensures { IfOk result (λ p. Parses bytes.now p.lines.items p.fault) }
 {
-    let mut lines = Vec::new(heap);
+    let mut lines = Vec::with_capacity(heap, bytes.len() / FEWEST + 1)?;
     let mut text = Scanner { rest: bytes };
     // A plan has at least one line.
     while !text.rest.is_empty() || lines.is_empty() {

@@ -14,6 +14,7 @@ pub struct Scanner<'a> {
 
 impl Scanner<'_> {
     // The value of the digit that comes.
+    #[inline(always)]
     pub fn digit(&mut self) -> Result<u32, Mismatch>
         ensures { MatchResult result (λ d. (d < 10) × (self.old.rest.now ≡ (48 + d) ∷ self.new.rest.now)) (λ _. (self.new ≡ self.old) × NoDigit self.old.rest.now) }
     {
@@ -25,6 +26,7 @@ impl Scanner<'_> {
     }
 
     // Past this byte, which has to come.
+    #[inline(always)]
     pub fn byte(&mut self, byte: u8) -> Result<(), Mismatch>
         ensures { MatchResult result (λ _. self.old.rest.now ≡ byte ∷ self.new.rest.now) (λ _. (self.new ≡ self.old) × ((after : List ℕ) → self.old.rest.now ≡ byte ∷ after → ⊥)) }
     {

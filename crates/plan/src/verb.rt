@@ -50,6 +50,7 @@ impl Verb {
     }
 
     // The line of the call, whose numbers come.
+    #[inline(always)]
     pub fn line(self, text: &mut Scanner) -> Result<Line, Mismatch>
         ensures { Scans (Numbers (arity self)) (CallAt self) text.old text.new result }
     {

@@ -37,7 +37,7 @@ pub fn call_of(line: Line) -> Result<Option<Call<Zone>>, LineFault>
 pub fn calls_in(heap: Global, lines: &[Line]) -> Result<Vec<Call<Zone>>, AllocError>
     ensures { IfOk result (λ v. v.items ≡ calls_of_lines lines.now) }
 {
-    let mut calls = Vec::new(heap);
+    let mut calls = Vec::with_capacity(heap, lines.len())?;
     for line in lines {
         if let Some(call) = call_of(*line).ok().flatten() {
             calls.push(call)?;
@@ -54,7 +54,7 @@ pub fn replies_by(
 ) -> Result<Vec<Reply>, AllocError>
     ensures { IfOk result (λ v. v.items ≡ replies_of_lines lines.now outcomes.now) }
 {
-    let mut replies = Vec::new(heap);
+    let mut replies = Vec::with_capacity(heap, lines.len())?;
     let mut rest = outcomes;
     for line in lines {
         match call_of(*line) {

@@ -3,7 +3,7 @@
 
 use plan::reading::LIMIT;
 use replies::answer_plan;
-use std::io::Read;
+use std::io::{Read, Write};
 
 fn main(rt: HostRuntime) -> anyhow::Result<()> {
     run(&rt)
@@ -11,10 +11,11 @@ fn main(rt: HostRuntime) -> anyhow::Result<()> {
 
 fn run(rt: &HostRuntime) -> anyhow::Result<()> {
     let heap = rt.alloc();
-    let mut bytes = Vec::new(heap);
     // One byte past the limit tells that a plan is too long.
-    rt.stdin().take(LIMIT as u64 + 1).read_to_end(&mut bytes)?;
+    let most = LIMIT + 1;
+    let mut bytes = Vec::with_capacity(heap, most)?;
+    rt.stdin().take(most as u64).read_to_end(&mut bytes)?;
     let text = answer_plan(heap, bytes.as_slice())?;
-    print!(rt; "{text}")?;
+    rt.stdout().write_all(text.as_bytes())?;
     Ok(())
 }

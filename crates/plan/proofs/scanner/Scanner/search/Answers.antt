@@ -1,7 +1,7 @@
 use Rattle.std.proofs.Common.{◌≡◌, Some, None, sym}
 use Rattle.plan.specs.Names.{table, found}
 use Rattle.plan.proofs.Words.{left-after, name-at, name-stuck}
-use Rattle.plan.proofs.scanner.Scanner.verb.Goals as goal
+use Rattle.plan.proofs.scanner.Scanner.search.Goals as goal
 
 pub returns-in_default : goal.returns-in_default
 returns-in_default c =
