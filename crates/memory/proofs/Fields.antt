@@ -6,9 +6,9 @@ use Rattle.std.proofs.lemmas.Nat.{pow_pos, and_mask, or_shifted, one_shl, shr-sh
 use Rattle.bank.specs.declared.word.Word.{Word}
 use Rattle.bank.specs.declared.word.Cell.{Cell}
 use Rattle.bank.specs.declared.word.Change.{Change}
-use Rattle.bank.specs.Words.{word_in, with_change}
+use Rattle.bank.specs.Words.{word_in, with_change, with_car, with_cdr, with_mark}
 use Rattle.bank.specs.Banks.{fits}
-use Rattle.memory.specs.Packing.{above, field_of, mark_bit, word_bits, word_of_bits, packed, unpacked, Narrow, packed_top}
+use Rattle.memory.specs.Packing.{above, field_of, mark_bit, word_bits, word_of_bits, packed, unpacked, Narrow, IsPacked, packed_top}
 
 -- The lowest field, and the fields above it.
 pub field-here : (high wide low : ℕ) → low < 2 ^ wide → field_of (above high wide low) 0 wide ≡ low
@@ -71,3 +71,61 @@ narrow_with c d is h = grind (arith, common_steps)
 
 -- What packing uses.
 pub ruleset of_packing = (above-made, field-made, field-small, reads-back, narrow_with, read-narrow)
+
+-- The parts of a packed cell, where they lie.
+module _ (c : Cell) (h : Narrow c) where
+  low : word_bits c.car < 2 ^ 30
+  low = word_small c.car h.car
+
+  mid : word_bits c.cdr < 2 ^ 30
+  mid = word_small c.cdr h.cdr
+
+  top : above (mark_bit c.mark) 30 (word_bits c.cdr) < 2 ^ 31
+  top = let m = mark-small c.mark in let d = mid in omega arith
+
+  upper : field_of (packed c) 30 31 ≡ above (mark_bit c.mark) 30 (word_bits c.cdr)
+  upper =
+      let high = above (mark_bit c.mark) 30 (word_bits c.cdr) in
+      field-up high 30 (word_bits c.car) 0 31 low ∙ field-whole high 31 top
+
+  lower : field_of (packed c) 0 30 ≡ word_bits c.car
+  lower = field-here (above (mark_bit c.mark) 30 (word_bits c.cdr)) 30 (word_bits c.car) low
+
+  last : field_of (packed c) 60 1 ≡ mark_bit c.mark
+  last =
+      field-up (above (mark_bit c.mark) 30 (word_bits c.cdr)) 30 (word_bits c.car) 30 1 low
+      ∙ field-up (mark_bit c.mark) 30 (word_bits c.cdr) 0 1 mid
+      ∙ field-whole (mark_bit c.mark) 1 (mark-small c.mark)
+
+  both : above (word_bits c.cdr) 30 (word_bits c.car) < 2 ^ 60
+  both = let l = low in let d = mid in omega arith
+
+  parted : packed c ≡ above (mark_bit c.mark) 60 (above (word_bits c.cdr) 30 (word_bits c.car))
+  parted = omega arith
+
+  words : field_of (packed c) 0 60 ≡ above (word_bits c.cdr) 30 (word_bits c.car)
+  words = ap (λ n. field_of n 0 60) parted ∙ field-here (mark_bit c.mark) 60 (above (word_bits c.cdr) 30 (word_bits c.car)) both
+
+together : (m : Bool) (c : Cell) → above (mark_bit m) 60 (above (word_bits c.cdr) 30 (word_bits c.car)) ≡ packed (with_mark m c)
+together m c = omega arith
+
+-- A part of a packed cell put anew.
+pub put_car : (bits : ℕ) (w : Word) → IsPacked bits → above (field_of bits 30 31) 30 (word_bits w) ≡ packed (with_car w (unpacked bits))
+put_car bits w kept =
+    ap (λ n. above (field_of n 30 31) 30 (word_bits w)) (sym kept)
+    ∙ ap (λ n. above n 30 (word_bits w)) (upper (unpacked bits) (read-narrow bits))
+
+pub put_cdr : (bits : ℕ) (w : Word) → IsPacked bits → above (above (field_of bits 60 1) 30 (word_bits w)) 30 (field_of bits 0 30) ≡ packed (with_cdr w (unpacked bits))
+put_cdr bits w kept =
+    ap (λ n. above (above (field_of n 60 1) 30 (word_bits w)) 30 (field_of n 0 30)) (sym kept)
+    ∙ ap (λ n. above (above n 30 (word_bits w)) 30 (field_of (packed (unpacked bits)) 0 30)) (last (unpacked bits) (read-narrow bits))
+    ∙ ap (λ n. above (above (mark_bit (unpacked bits).mark) 30 (word_bits w)) 30 n) (lower (unpacked bits) (read-narrow bits))
+
+pub put_mark : (bits : ℕ) (m : Bool) → IsPacked bits → above (mark_bit m) 60 (field_of bits 0 60) ≡ packed (with_mark m (unpacked bits))
+put_mark bits m kept =
+    ap (λ n. above (mark_bit m) 60 (field_of n 0 60)) (sym kept)
+    ∙ ap (above (mark_bit m) 60) (words (unpacked bits) (read-narrow bits))
+    ∙ together m (unpacked bits)
+
+-- What putting a part anew uses.
+pub ruleset of_changing = (above-made, field-made, field-small, put_car, put_cdr, put_mark)

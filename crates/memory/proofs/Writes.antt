@@ -24,6 +24,15 @@ module _ {X : Type 0} (shows : X → Cell) (m : List X) where
   unfolding shown
   get_or-shown n d h = ap shows (get_or-front m n d h) ∙ sym (get_or-map shows (front m) n d blank h)
 
+  -- An element of a bank is the one that stores the cell that it shows.
+  pub kept_shown : (stores : Cell → X) (n : ℕ) (d : X) → Packed shows stores m → n < length (shown shows m) → stores (shows (get_or m n d)) ≡ get_or m n d
+  kept_shown stores n d is h =
+      let l : n < length (front m) = rw length-shown at h in
+      ap stores (get_or-shown n d l)
+      ∙ sym (get_or-map stores (shown shows m) n blank d h)
+      ∙ ap (λ l. get_or l n d) (sym is)
+      ∙ sym (get_or-front m n d l)
+
   shown-set : (n : ℕ) (x : X) → shown shows (set m n x) ≡ set (shown shows m) n (shows x)
   unfolding shown
   shown-set n x = ap (map shows) (front-set m n x) ∙ map-set shows (front m) n x
@@ -43,6 +52,9 @@ module _ {X : Type 0} (shows : X → Cell) (m : List X) where
   -- A cell that a word may be put into.
   pub may_write : (limit n : ℕ) (w : Word) (c : Cell) → Ok c ≡ writable limit (shown shows m) n w → n < length m
   may_write limit n w c e = within_shown n (writable-ok limit (shown shows m) n w c e).0
+
+  pub may_keep : (stores : Cell → X) (limit n : ℕ) (w : Word) (c : Cell) (d : X) → Packed shows stores m → Ok c ≡ writable limit (shown shows m) n w → stores (shows (get_or m n d)) ≡ get_or m n d
+  may_keep stores limit n w c d is e = kept_shown stores n d is (writable-ok limit (shown shows m) n w c e).0
 
   pub may_fit : (limit n : ℕ) (w : Word) (d : Change) (c : Cell) → w ≡ word_in d → Ok c ≡ writable limit (shown shows m) n w → fits limit (word_in d) ≡ true
   may_fit limit n w d c is e = rw is at (writable-ok limit (shown shows m) n w c e).1
@@ -107,4 +119,4 @@ module _ (cells : List Cell) (limit n : ℕ) (w : Word) (d : Change) (fault : Ba
   refused_after = (put_refused (λ _. with_change d) limit cells n (word_in d) fault (rw is at refused)).1
 
 -- What the methods of a bank use.
-pub ruleset of_memory = (shown_length, within_shown, asked_shown, may_write, may_fit, change_after, change_stored, change_packed, refused_answer, refused_after)
+pub ruleset of_memory = (shown_length, within_shown, asked_shown, may_write, may_fit, may_keep, change_after, change_stored, change_packed, refused_answer, refused_after)

@@ -55,6 +55,10 @@ pub record Narrow (c : Cell) : Type 0 where
   pub car : fits packed_top c.car ≡ true
   pub cdr : fits packed_top c.cdr ≡ true
 
+-- The packing of the cell that it shows: every memory of a bank is made of such.
+abbrev pub IsPacked : ℕ → Type 0
+IsPacked bits = packed (unpacked bits) ≡ bits
+
 -- What packing answers: a word that is too wide is refused, the car first.
 abbrev pub packing : Cell → Result ℕ BankFault
 packing c = taken packed_top c.car (taken packed_top c.cdr (Ok (packed c)))

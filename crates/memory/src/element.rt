@@ -33,9 +33,10 @@ pub(super) trait Element: Copy {
     fn cell(self) -> Cell
         ensures { result ≡ shows self };
 
-    // The element that stores the cell with the change made.
+    // The element that stores the cell with the change made, of one that stores what it shows.
     fn changed(self, change: Change) -> Self
-        requires { fits LIMIT (word_in change) ≡ true }
+        requires fits { fits LIMIT (word_in change) ≡ true }
+        requires kept { stores (shows self) ≡ self }
         ensures value { result ≡ stores (with_change change (shows self)) }
         ensures back { shows result ≡ with_change change (shows self) };
 
@@ -62,17 +63,23 @@ impl Element for u64 {
 
     const LIMIT: u32 = packing::LIMIT;
 
+    #[inline(always)]
     fn blank() -> u64 {
         0
     }
 
+    #[inline(always)]
     fn cell(self) -> Cell {
         packing::unpack(self)
     }
 
+    #[inline(always)]
     fn changed(self, change: Change) -> u64 {
-        let cell = packing::unpack(self);
-        packing::packed_cell(cell.with(change))
+        match change {
+            Change::Car(car) => packing::with_car(self, car),
+            Change::Cdr(cdr) => packing::with_cdr(self, cdr),
+            Change::Mark(mark) => packing::with_mark(self, mark),
+        }
     }
 }
 

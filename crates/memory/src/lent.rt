@@ -44,14 +44,17 @@ impl<'a, E: Element> Bank for LentBank<'a, E> {
 
     ghost sound = { λ s. sound-memory E.LIMIT E.shows E.wide s.memory.now };
 
+    #[inline(always)]
     fn size(&self) -> u32 {
         self.memory.len().min(MOST) as u32
     }
 
+    #[inline(always)]
     fn word_limit(&self) -> u32 {
         E::LIMIT
     }
 
+    #[inline(always)]
     fn cell(&self, n: u32) -> Result<Cell, BankFault> {
         if n < self.size() {
             Ok(self.memory[n as usize].cell())
@@ -61,6 +64,7 @@ impl<'a, E: Element> Bank for LentBank<'a, E> {
     }
 
     // `answer` and `after` are the trait's own: beside further clauses the check asks for them again.
+    #[inline(always)]
     fn set(&mut self, n: u32, change: Change) -> Result<(), BankFault>
         ensures answer { result ≡ change_taken E.LIMIT (shown E.shows self.old.memory.now) n change }
         ensures after { shown E.shows self.new.memory.now ≡ change_put E.LIMIT (shown E.shows self.old.memory.now) n change }

@@ -1,7 +1,7 @@
 ghost use Rattle.std.specs.Prelude.{◌≡◌, ◌^◌, ◌<◌, ◌≤◌, Ok};
-ghost use Rattle.bank.specs.Words.{number_of};
+ghost use Rattle.bank.specs.Words.{number_of, with_car, with_cdr, with_mark};
 ghost use Rattle.bank.specs.Banks.{taken};
-ghost use Rattle.memory.specs.Packing.{packed_top, above, field_of, kind_of, word_bits, word_of_bits, packed, unpacked, packing, Narrow, ReadsBack, PacksApart};
+ghost use Rattle.memory.specs.Packing.{packed_top, above, field_of, kind_of, word_bits, word_of_bits, packed, unpacked, packing, Narrow, IsPacked, ReadsBack, PacksApart};
 
 use bank::{BankFault, Cell, Word};
 
@@ -28,6 +28,7 @@ fn check(cell: Cell) -> Result<(), BankFault>
 }
 
 // The cell that the bits hold; those above the mark say nothing.
+#[inline(always)]
 pub fn unpack(bits: u64) -> Cell
     ensures { result ≡ unpacked bits }
 {
@@ -47,6 +48,38 @@ pub(super) fn packed_cell(cell: Cell) -> u64
     above(marked, 30, packed_word(cell.car))
 }
 
+// The bits of a packed cell with one part put anew: the others stay where they are, packed as they were.
+#[tactic(auto, using(crate::proofs::Fields::of_changing))]
+#[inline(always)]
+pub(super) fn with_car(bits: u64, car: Word) -> u64
+    requires fits { number_of car ≤ packed_top }
+    requires kept { IsPacked bits }
+    ensures { result ≡ packed (with_car car (unpacked bits)) }
+{
+    above(field(bits, 30, 31), 30, packed_word(car))
+}
+
+#[tactic(auto, using(crate::proofs::Fields::of_changing))]
+#[inline(always)]
+pub(super) fn with_cdr(bits: u64, cdr: Word) -> u64
+    requires fits { number_of cdr ≤ packed_top }
+    requires kept { IsPacked bits }
+    ensures { result ≡ packed (with_cdr cdr (unpacked bits)) }
+{
+    let high = above(field(bits, 60, 1), 30, packed_word(cdr));
+    above(high, 30, field(bits, 0, 30))
+}
+
+#[tactic(auto, using(crate::proofs::Fields::of_changing))]
+#[inline(always)]
+pub(super) fn with_mark(bits: u64, mark: bool) -> u64
+    requires kept { IsPacked bits }
+    ensures { result ≡ packed (with_mark mark (unpacked bits)) }
+{
+    above(mark as u64, 60, field(bits, 0, 60))
+}
+
+#[inline(always)]
 fn packed_word(word: Word) -> u64
     requires { number_of word ≤ packed_top }
     ensures value { result ≡ word_bits word }
@@ -55,6 +88,7 @@ fn packed_word(word: Word) -> u64
     above(kind(word), 28, word.number() as u64)
 }
 
+#[inline(always)]
 fn unpacked_word(bits: u64) -> Word
     ensures { result ≡ word_of_bits bits }
 {
@@ -68,6 +102,7 @@ fn unpacked_word(bits: u64) -> Word
 }
 
 // The kind as the number that the format gives it.
+#[inline(always)]
 fn kind(word: Word) -> u64
     ensures value { result ≡ kind_of word }
     ensures small { result < 4 }
@@ -82,6 +117,7 @@ fn kind(word: Word) -> u64
 
 // A field of `wide` bits with `low` in it, and `high` above it.
 #[tactic(auto, using(crate::proofs::Fields::of_packing))]
+#[inline(always)]
 fn above(high: u64, wide: u32, low: u64) -> u64
     requires narrow { low < 2 ^ wide }
     requires fits { above high wide low < 2 ^ 64 }
@@ -93,6 +129,7 @@ fn above(high: u64, wide: u32, low: u64) -> u64
 
 // The field of `wide` bits that begins at bit `at`.
 #[tactic(auto, using(crate::proofs::Fields::of_packing))]
+#[inline(always)]
 fn field(bits: u64, at: u32, wide: u32) -> u64
     requires start { at < 64 }
     requires shift { wide < 64 }

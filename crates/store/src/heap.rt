@@ -14,6 +14,7 @@ pub struct Heap<B> {
 
 impl<B: Bank> Heap<B> {
     // To offer a word is to mark and push the cell that it names, if that is unmarked.
+    #[inline(always)]
     pub fn offer(&mut self, word: Word)
         ensures heap { heap_of B.cells self.new ≡ offer word (heap_of B.cells self.old) }
         ensures limit { B.limit self.new.bank ≡ B.limit self.old.bank }
@@ -41,6 +42,7 @@ impl<B: Bank> Heap<B> {
     }
 
     // Offers the car of a cell and then its cdr.
+    #[inline(always)]
     fn offer_fields(&mut self, cell: Cell)
         ensures heap { heap_of B.cells self.new ≡ offer cell.cdr (offer cell.car (heap_of B.cells self.old)) }
         ensures limit { B.limit self.new.bank ≡ B.limit self.old.bank }
@@ -51,6 +53,7 @@ impl<B: Bank> Heap<B> {
     }
 
     // Pops the latest waiting cell, and offers its car and then its cdr; the count of cells popped, none where none waits.
+    #[inline(always)]
     fn scan(&mut self) -> u32
         ensures heap { heap_of B.cells self.new ≡ scan (heap_of B.cells self.old) }
         ensures popped { result ≡ length (latest (heap_of B.cells self.old).stack) }
@@ -67,6 +70,7 @@ impl<B: Bank> Heap<B> {
     }
 
     // The share of a mark turn: up to k scans. The count of cells popped.
+    #[inline(never)]
     pub fn scans(&mut self, k: u8) -> u32
         ensures heap { heap_of B.cells self.new ≡ scans k (heap_of B.cells self.old) }
         ensures popped { result ≡ length (scanned k (heap_of B.cells self.old)) }

@@ -14,6 +14,7 @@ pub struct Pool {
 
 impl Pool {
     // Makes a cell the head of the free list.
+    #[inline(always)]
     fn release<B: Bank>(&mut self, bank: &mut B, n: u32)
         ensures ground { ground_of B.cells bank.new self.new ≡ treat false false (B.limit bank.old) n (ground_of B.cells bank.old self.old) }
         ensures limit { B.limit bank.new ≡ B.limit bank.old }
@@ -27,6 +28,7 @@ impl Pool {
     }
 
     // Takes the mark off cell n, leaves it where it is free, and releases it otherwise.
+    #[inline(always)]
     fn treat<B: Bank>(&mut self, bank: &mut B, n: u32, cell: Cell)
         ensures ground { ground_of B.cells bank.new self.new ≡ treat cell.mark (is_reserved cell.cdr) (B.limit bank.old) n (ground_of B.cells bank.old self.old) }
         ensures limit { B.limit bank.new ≡ B.limit bank.old }
@@ -41,6 +43,7 @@ impl Pool {
     }
 
     // Sweeps the cell at the sweeper; the count of cells swept, none past the last.
+    #[inline(always)]
     fn sweep<B: Bank>(&mut self, bank: &mut B) -> u32
         ensures ground { ground_of B.cells bank.new self.new ≡ sweep (B.limit bank.old) (ground_of B.cells bank.old self.old) }
         ensures swept { result ≡ (if nat_lt self.old.sweeper (length (B.cells bank.old)) then 1 else 0) }
@@ -57,15 +60,19 @@ impl Pool {
 
     // The share of a sweep turn: up to k cells. The count of cells swept.
     // Not one loop with `scans`: a step that is passed in would hide what it does to the bank, and a trait for it is longer.
+    #[inline(never)]
     pub fn sweeps<B: Bank>(&mut self, bank: &mut B, k: u8) -> u32
         ensures ground { ground_of B.cells bank.new self.new ≡ sweeps (B.limit bank.old) k (ground_of B.cells bank.old self.old) }
         ensures swept { result ≡ min k (length (B.cells bank.old) - self.old.sweeper) }
         ensures limit { B.limit bank.new ≡ B.limit bank.old }
     {
+        // A copy of its own, which the loop can hold in registers.
+        let mut pool = *self;
         let mut swept = 0;
         for _ in 0..k {
-            swept += self.sweep(bank);
+            swept += pool.sweep(bank);
         }
+        *self = pool;
         swept
     }
 }

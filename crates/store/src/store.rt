@@ -147,6 +147,7 @@ impl<B: Bank, K: Kind, R: StartRule> Store<B, K, R> {
     }
 
     // While marking, a word that is about to be overwritten is offered.
+    #[inline(always)]
     fn shade(&mut self, word: Word)
         ensures state { ⟦<Self as ListStore>⟧.state self.new ≡
             with_heap (offer_in self.old.phase word (⟦<Self as ListStore>⟧.state self.old).heap) (⟦<Self as ListStore>⟧.state self.old) }
@@ -183,6 +184,7 @@ impl<B: Bank, K: Kind, R: StartRule> Store<B, K, R> {
     }
 
     // Copies a word of the cell in register a into register i.
+    #[inline(always)]
     fn read(&mut self, half: Half, i: u32, a: u32) -> Result<(), StoreFault>
         ensures state { ⟦<Self as ListStore>⟧.state self.new ≡
             (call (R.says self.old.rule self.old.pool.count) (⟦<Self as ListStore>⟧.state self.old) (reading half i a)).state }
@@ -201,6 +203,7 @@ impl<B: Bank, K: Kind, R: StartRule> Store<B, K, R> {
     }
 
     // Puts register b's word into the cell in register a.
+    #[inline(always)]
     fn replace(&mut self, half: Half, a: u32, b: u32) -> Result<(), StoreFault>
         ensures state { ⟦<Self as ListStore>⟧.state self.new ≡
             (call (R.says self.old.rule self.old.pool.count) (⟦<Self as ListStore>⟧.state self.old) (replacing half a b)).state }

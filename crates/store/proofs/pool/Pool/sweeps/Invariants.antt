@@ -8,7 +8,7 @@ abbrev pub invariant-loop : goal.invariant-loop
 invariant-loop g l =
     let limit = g.B.Bank.limit in
     let cells = g.B.Bank.cells in
-    (sweeps (limit l.bank) (l.k - l.counter) (ground_of cells l.bank l.self) ≡ sweeps (limit l.initial.bank) l.k (ground_of cells l.initial.bank l.initial.self))
-    × (l.swept + min (l.k - l.counter) (length (cells l.bank) - l.self.sweeper) ≡ min l.k (length (cells l.initial.bank) - l.initial.self.sweeper))
+    (sweeps (limit l.bank) (l.k - l.counter) (ground_of cells l.bank l.pool) ≡ sweeps (limit l.initial.bank) l.k (ground_of cells l.initial.bank l.initial.self))
+    × (l.swept + min (l.k - l.counter) (length (cells l.bank) - l.pool.sweeper) ≡ min l.k (length (cells l.initial.bank) - l.initial.self.sweeper))
     × (l.swept ≤ l.counter)
     × (limit l.bank ≡ limit l.initial.bank)
