@@ -54,7 +54,8 @@ pub fn replies_by(
 ) -> Result<Vec<Reply>, AllocError>
     ensures { IfOk result (λ v. v.items ≡ replies_of_lines lines.now outcomes.now) }
 {
-    let mut replies = Vec::with_capacity(heap, lines.len())?;
+    // The caller puts one more before them.
+    let mut replies = Vec::with_capacity(heap, lines.len() + 1)?;
     let mut rest = outcomes;
     for line in lines {
         match call_of(*line) {

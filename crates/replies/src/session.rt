@@ -34,11 +34,9 @@ fn serve_on<B: Bank + Drop>(
         opening.effort,
         calls.as_slice(),
     )?;
-    let replies = replies_by(heap, lines, outcomes.as_slice())?;
-    let mut all = Vec::new(heap);
-    all.push(Reply::Done)?;
-    all.extend_from_slice(replies.as_slice())?;
-    Ok(all)
+    let mut replies = replies_by(heap, lines, outcomes.as_slice())?;
+    replies.insert(0, Reply::Done)?;
+    Ok(replies)
 }
 
 // The same over packed cells in memory of its own.
