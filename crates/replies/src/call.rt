@@ -1,5 +1,5 @@
 // The call that a line asks for.
-ghost use Rattle.std.specs.Prelude.{◌≡◌, IfOk};
+ghost use Rattle.std.specs.Prelude.{◌≡◌, ◌++◌, IfOk, OnOk};
 ghost use Rattle.replies.specs.Requests.{call_of, calls_of_lines, replies_of_lines};
 
 use super::fault::LineFault;
@@ -46,16 +46,14 @@ pub fn calls_in(heap: Global, lines: &[Line]) -> Result<Vec<Call<Zone>>, AllocEr
     Ok(calls)
 }
 
-// The replies to some lines, by the outcomes of their calls.
-pub fn replies_by(
-    heap: Global,
+// Appends the replies to some lines, by the outcomes of their calls.
+pub fn push_replies(
+    replies: &mut Vec<Reply>,
     lines: &[Line],
     outcomes: &[Outcome<Zone>],
-) -> Result<Vec<Reply>, AllocError>
-    ensures { IfOk result (λ v. v.items ≡ replies_of_lines lines.now outcomes.now) }
+) -> Result<(), AllocError>
+    ensures { OnOk result (replies.new.items ≡ replies.old.items ++ replies_of_lines lines.now outcomes.now) }
 {
-    // The caller puts one more before them.
-    let mut replies = Vec::with_capacity(heap, lines.len() + 1)?;
     let mut rest = outcomes;
     for line in lines {
         match call_of(*line) {
@@ -69,5 +67,18 @@ pub fn replies_by(
             Err(fault) => replies.push(Reply::Refused(fault))?,
         }
     }
+    Ok(())
+}
+
+// The replies to some lines, by the outcomes of their calls.
+pub fn replies_by(
+    heap: Global,
+    lines: &[Line],
+    outcomes: &[Outcome<Zone>],
+) -> Result<Vec<Reply>, AllocError>
+    ensures { IfOk result (λ v. v.items ≡ replies_of_lines lines.now outcomes.now) }
+{
+    let mut replies = Vec::with_capacity(heap, lines.len())?;
+    push_replies(&mut replies, lines, outcomes)?;
     Ok(replies)
 }

@@ -2,7 +2,7 @@
 ghost use Rattle.std.specs.Prelude.{◌≡◌, length, IfOk, Ok, Some, string_bytes};
 ghost use Rattle.replies.specs.Sessions.{Served, RepliedBy, Replied, Answered, text_of_fault, later};
 
-use super::call::{calls_in, replies_by};
+use super::call::{calls_in, push_replies};
 use super::opening::{Opening, open_plan};
 use super::reply::Reply;
 use super::text::replies_text;
@@ -34,8 +34,9 @@ fn serve_on<B: Bank + Drop>(
         opening.effort,
         calls.as_slice(),
     )?;
-    let mut replies = replies_by(heap, lines, outcomes.as_slice())?;
-    replies.insert(0, Reply::Done)?;
+    let mut replies = Vec::with_capacity(heap, lines.len() + 1)?;
+    replies.push(Reply::Done)?;
+    push_replies(&mut replies, lines, outcomes.as_slice())?;
     Ok(replies)
 }
 
