@@ -1,5 +1,5 @@
 // Mark turns of one scan each, and the cells that are marked after each.
-use crate::text::{make, repeat, show, zone_store};
+use crate::text::{make, make_one, show, zone_store};
 use atoms::Zone;
 use bank::Bank;
 use collector::Call;
@@ -22,7 +22,7 @@ fn turns<S: ListStore<Value = Zone>>(
     size: u32,
 ) -> anyhow::Result<()> {
     for _ in 0..times {
-        repeat(rt, store, 1, call)?;
+        make_one(rt, store, call)?;
         print!(rt; "  marked:")?;
         for n in 0..size {
             if store.cell(n).is_ok_and(|cell| cell.mark) {

@@ -98,15 +98,25 @@ pub fn effort(k1: u32, k2: u32) -> anyhow::Result<Effort> {
     Effort::new(k1, k2).map_err(|fault| told(fault.into()))
 }
 
-// Makes the calls in order, and prints of each the answer and where the collector then stands.
+// Makes a call, and prints its answer and where the collector then stands.
+pub fn make_one<S: ListStore<Value = Zone>>(
+    rt: &HostRuntime,
+    store: &mut S,
+    call: &Call<Zone>,
+) -> anyhow::Result<()> {
+    let reply = Reply::from(&store.apply(call));
+    println!(rt; "  {}: {reply}; {}", CallText(call), Place::of(store))?;
+    Ok(())
+}
+
+// Makes calls in order.
 pub fn make<S: ListStore<Value = Zone>>(
     rt: &HostRuntime,
     store: &mut S,
     calls: &[Call<Zone>],
 ) -> anyhow::Result<()> {
     for call in calls {
-        let reply = Reply::from(&store.apply(call));
-        println!(rt; "  {}: {reply}; {}", CallText(call), Place::of(store))?;
+        make_one(rt, store, call)?;
     }
     Ok(())
 }
@@ -119,8 +129,7 @@ pub fn repeat<S: ListStore<Value = Zone>>(
     call: &Call<Zone>,
 ) -> anyhow::Result<()> {
     for _ in 0..times {
-        let reply = Reply::from(&store.apply(call));
-        println!(rt; "  {}: {reply}; {}", CallText(call), Place::of(store))?;
+        make_one(rt, store, call)?;
     }
     Ok(())
 }
