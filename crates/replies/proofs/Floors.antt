@@ -20,7 +20,7 @@ ruled-under s r [] last ruled = refl
 ruled-under {V} s r (e ∷ es) last ruled =
     let same : ruled.0 ≡ r = stays (asks s e.call) r s.pool.count ruled.0 ruled.2 in
     let rest : es ≡ under_floor (floor_of r) (next s e) (calls_of es) =
-        ruled-under (next s e) r es last (subst (λ (p : FloorRule). Ruled floor_says floor_becomes (next s e) p es last) same ruled.3) in
+    ruled-under (next s e) r es last (subst (λ (p : FloorRule). Ruled floor_says floor_becomes (next s e) p es last) same ruled.3) in
     search (rules, ruled.1, rest)
 
 -- A run under the floor rule, as an equation.

@@ -1,5 +1,5 @@
 -- The replies to a plan's lines, and how they are written.
-use Rattle.std.specs.Prelude.{ℕ, true, false, List, [], ◌∷◌, ◌++◌, Ok, Err, codes, decimal}
+use Rattle.std.specs.Prelude.{ℕ, true, false, List, [], ◌∷◌, ◌++◌, Ok, Err, Result, codes, decimal}
 use Rattle.atoms.specs.declared.zone.Zone.{Zone}
 use Rattle.atoms.specs.Refusals.{spoken}
 use Rattle.atoms.specs.Zones.{pair_text}
@@ -25,6 +25,11 @@ answer_reply (Answer.Same same) = Reply.Same same
 abbrev pub reply_of : Outcome Zone → Reply
 reply_of (Ok a) = answer_reply a
 reply_of (Err fault) = Reply.Refused (LineFault.Store fault)
+
+-- A reply or a refusal, as one reply.
+abbrev pub reply_in : Result Reply LineFault → Reply
+reply_in (Ok r) = r
+reply_in (Err fault) = Reply.Refused fault
 
 -- How a reply is written.
 abbrev pub reply_text : Reply → List ℕ

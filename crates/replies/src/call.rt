@@ -69,16 +69,3 @@ pub fn push_replies(
     }
     Ok(())
 }
-
-// The replies to some lines, by the outcomes of their calls.
-pub fn replies_by(
-    heap: Global,
-    lines: &[Line],
-    outcomes: &[Outcome<Zone>],
-) -> Result<Vec<Reply>, AllocError>
-    ensures { IfOk result (λ v. v.items ≡ replies_of_lines lines.now outcomes.now) }
-{
-    let mut replies = Vec::with_capacity(heap, lines.len())?;
-    push_replies(&mut replies, lines, outcomes)?;
-    Ok(replies)
-}

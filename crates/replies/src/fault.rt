@@ -56,7 +56,7 @@ impl LineFault {
     }
 
     // What it returns: one value, and perhaps a second.
-    pub(super) fn values(&self) -> (u32, Option<u32>)
+    fn values(&self) -> (u32, Option<u32>)
         ensures { values result.0 result.1 ≡ (told self.now).1 }
     {
         match *self {

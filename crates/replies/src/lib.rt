@@ -8,7 +8,7 @@ mod reply;
 mod session;
 mod text;
 
-pub use call::{call_of, calls_in, push_replies, replies_by};
+pub use call::{call_of, calls_in, push_replies};
 pub use fault::LineFault;
 pub use reply::Reply;
 pub use session::{answer_plan, replies_to};

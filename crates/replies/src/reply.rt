@@ -1,6 +1,6 @@
 // What is printed for a line of a plan. Flat, and no result of an answer: its cases are the texts that there are.
 ghost use Rattle.std.specs.Prelude.{◌≡◌, Some};
-ghost use Rattle.replies.specs.Replies.{reply_text, reply_of, answer_reply, seen_reply};
+ghost use Rattle.replies.specs.Replies.{reply_text, reply_in, reply_of, answer_reply, seen_reply};
 
 use super::fault::LineFault;
 use atoms::Zone;
@@ -36,15 +36,32 @@ impl fmt::Display for Reply {
     }
 }
 
+// A line's reply, or its refusal.
+impl From<Result<Reply, LineFault>> for Reply {
+    ghost from_gives = { λ e r. r ≡ reply_in e };
+
+    fn from(res: Result<Reply, LineFault>) -> Reply {
+        match res {
+            Ok(reply) => reply,
+            Err(fault) => Reply::Refused(fault),
+        }
+    }
+}
+
+// What a line is answered by the outcome of its call. The store's fault goes up whole.
+fn answered(outcome: &Outcome<Zone>) -> Result<Reply, LineFault>
+    ensures { reply_in result ≡ reply_of outcome.now }
+{
+    let answer = outcome.as_ref().map_err(|fault| *fault)?;
+    Ok(answer.into())
+}
+
 // The reply to a line by the outcome of its call.
 impl From<&Outcome<Zone>> for Reply {
     ghost from_gives = { λ e r. r ≡ reply_of e.now };
 
     fn from(outcome: &Outcome<Zone>) -> Reply {
-        match outcome {
-            Ok(answer) => answer.into(),
-            Err(fault) => Reply::Refused((*fault).into()),
-        }
+        answered(outcome).into()
     }
 }
 

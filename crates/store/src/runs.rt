@@ -53,7 +53,7 @@ pub fn run<B: Bank, K: Kind, R: StartRule>(
     calls: &[Call<K::Value>],
 ) -> Run<Store<B, K, R>, K::Value>
     ensures law { Ran R.says R.becomes (fixed_by B.limit K.coded K.valued R.floor bank kind rule effort) (length (B.cells bank)) rule calls.now
-            ⟦<Store<B, K, R> as ListStore>⟧.state ⟦<Store<B, K, R> as ListStore>⟧.rule result }
+        ⟦<Store<B, K, R> as ListStore>⟧.state ⟦<Store<B, K, R> as ListStore>⟧.rule result }
     ensures kind { (store_of result).kind ≡ kind }
 {
     let store = Store::new(bank, kind, rule, effort);
