@@ -8,3 +8,6 @@ mod word;
 pub use bank::Bank;
 pub use fault::BankFault;
 pub use word::{Cell, Change, Word};
+
+// The most cells that a bank has.
+pub const MOST_CELLS: u32 = 4096;

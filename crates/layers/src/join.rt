@@ -2,7 +2,7 @@ ghost use Rattle.std.specs.Prelude.{◌≡◌, ◌++◌, length, Ok};
 ghost use Rattle.bank.specs.Banks.{on_cell, change_taken, change_put};
 ghost use Rattle.layers.specs.Joins.{join_cells, join_limit, beyond, side_of, sound-join};
 
-use bank::{Bank, BankFault, Cell, Change};
+use bank::{Bank, BankFault, Cell, Change, MOST_CELLS};
 
 // The cells of two banks, one after the other: the first 4,096 in all.
 #[derive(Drop)]
@@ -57,7 +57,7 @@ impl<F: Bank, G: Bank> Bank for Join<F, G> {
     ghost sound = { λ s. sound-join (F.Bank.sound s.first) (G.Bank.sound s.second) };
 
     fn size(&self) -> u32 {
-        (self.first.size() + self.second.size()).min(4096)
+        (self.first.size() + self.second.size()).min(MOST_CELLS)
     }
 
     fn word_limit(&self) -> u32 {

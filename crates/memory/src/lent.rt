@@ -5,12 +5,9 @@ ghost use Rattle.memory.specs.Memories.{cleared, shown, stored, Packed};
 ghost use Rattle.memory.specs.Elements.{sound-memory};
 
 use super::element::Element;
-use bank::{Bank, BankFault, Cell, Change};
+use bank::{Bank, BankFault, Cell, Change, MOST_CELLS};
 
-// The elements of a lent memory that hold cells, at most. Later ones are never touched.
-const MOST: usize = 4096;
-
-// A bank over lent memory, a cell in each element: at most the first 4,096. Each of these stores the cell that it shows, and nothing more.
+// A bank over lent memory, a cell in each element: at most the first 4,096, and later ones are never touched. Each of these stores the cell that it shows, and nothing more.
 #[derive(Drop)]
 pub struct LentBank<'a, E: Element> {
     memory: &'a mut [E],
@@ -30,7 +27,7 @@ impl<'a, E: Element> LentBank<'a, E> {
         ensures made { result.memory.now ≡ cleared (E.stores blank) memory.old }
         ensures empty { shown E.shows result.memory.now ≡ replicate (min 4096 (length memory.old)) blank }
     {
-        let n = memory.len().min(MOST);
+        let n = memory.len().min(MOST_CELLS as usize);
         memory[..n].fill(E::blank());
         LentBank { memory }
     }
@@ -46,7 +43,7 @@ impl<'a, E: Element> Bank for LentBank<'a, E> {
 
     #[inline(always)]
     fn size(&self) -> u32 {
-        self.memory.len().min(MOST) as u32
+        self.memory.len().min(MOST_CELLS as usize) as u32
     }
 
     #[inline(always)]

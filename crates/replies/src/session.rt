@@ -7,7 +7,7 @@ use super::opening::{Opening, open_plan};
 use super::reply::Reply;
 use super::text::replies_text;
 use atoms::zones::Zones;
-use bank::Bank;
+use bank::{Bank, MOST_CELLS};
 use memory::PackedBank;
 use pacing::fault::EffortFault;
 use pacing::floor::FloorRule;
@@ -44,7 +44,7 @@ fn serve_on<B: Bank + Drop>(
 fn serve(heap: Global, opening: Opening, lines: &[Line]) -> Result<Vec<Reply>, AllocError>
     ensures { IfOk result (λ v. RepliedBy (Ok (Some opening)) lines.now v.items) }
 {
-    let size = opening.cells.min(4096) as usize;
+    let size = opening.cells.min(MOST_CELLS) as usize;
     let mut memory = vec![in heap; 0u64; size]?;
     serve_on(heap, PackedBank::new(memory.as_mut_slice()), opening, lines)
 }

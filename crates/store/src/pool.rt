@@ -3,7 +3,7 @@ ghost use Rattle.std.specs.Prelude.{◌≡◌, ◌-◌, min, false, length, if�
 ghost use Rattle.collector.specs.Turns.{is_reserved, treat, sweep, sweeps};
 ghost use Rattle.store.specs.Meaning.{ground_of};
 
-use bank::{Bank, Cell, Change, Word};
+use bank::{Bank, Cell, Change, MOST_CELLS, Word};
 
 #[derive(Clone, Copy, PartialEq, Eq, Debug)]
 pub struct Pool {
@@ -22,7 +22,7 @@ impl Pool {
         let _ = bank.set(n, Change::Car(self.head));
         let _ = bank.set(n, Change::Cdr(Word::Reserved));
         self.head = Word::Cell(n);
-        if self.count < 4096 {
+        if self.count < MOST_CELLS {
             self.count += 1;
         }
     }

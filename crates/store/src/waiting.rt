@@ -3,10 +3,11 @@ ghost use Rattle.collector.specs.Lists.{is_empty};
 ghost use Rattle.collector.specs.Turns.{pushed};
 ghost use Rattle.store.specs.Stacks.{first, popped};
 
+use bank::MOST_CELLS;
 use std::marker::Model;
 
 // The most cells that wait at once: as many as a bank has.
-const MOST: usize = 4096;
+const MOST: usize = MOST_CELLS as usize;
 
 // The numbers of the cells that wait to be scanned, the latest last. A plain array, as the project asks: a store has fixed memory, and no call allocates.
 #[derive(Drop)]
