@@ -1,5 +1,5 @@
 -- Scans, one after another. Assumes nothing.
-use Rattle.std.proofs.Common.{◌≡◌, ℕ, suc, ◌+◌, ◌-◌, ◌<◌, ◌≤◌, List, [], ◌∷◌, length, ap, sym, ◌∙◌, arith, length-append}
+use Rattle.std.proofs.Common.{◌≡◌, ℕ, zero, suc, ◌+◌, ◌-◌, ◌<◌, ◌≤◌, List, [], ◌∷◌, length, refl, ap, sym, ◌∙◌, arith, length-append}
 use Rattle.collector.specs.States.{Heap}
 use Rattle.collector.specs.Turns.{scan, scans, scanned, latest}
 
@@ -20,3 +20,23 @@ scanned-more g h k i p r l e q =
 pub latest-few : (stack : List ℕ) → length (latest stack) ≤ 1
 latest-few [] = omega arith
 latest-few (n ∷ stack) = omega arith
+
+-- Where no cell waits, no scan does anything.
+pub scans_none : (k : ℕ) (h : Heap) → h.stack ≡ [] → scans k h ≡ h
+scans_none zero h e = refl
+scans_none (suc k) h e =
+    let one : scan h ≡ h = rw e refl in
+    ap (scans k) one ∙ scans_none k h e
+
+pub scanned_none : (k : ℕ) (h : Heap) → h.stack ≡ [] → length (scanned k h) ≡ 0
+scanned_none zero h e = refl
+scanned_none (suc k) h e =
+    let one : scan h ≡ h = rw e refl in
+    let rest = scanned_none k h e in
+    let both = length-append (latest h.stack) (scanned k (scan h)) in
+    let same = ap (λ (x : Heap). length (scanned k x)) one in
+    let none : length (latest h.stack) ≡ 0 = rw e refl in
+    omega arith
+
+-- What a share of scans uses.
+pub ruleset of_scanning = (scans_none, scanned_none)

@@ -70,6 +70,7 @@ impl<B: Bank> Heap<B> {
     }
 
     // The share of a mark turn: up to k scans. The count of cells popped.
+    #[tactic(auto, using(crate::proofs::Scans::of_scanning))]
     #[inline(never)]
     pub fn scans(&mut self, k: u8) -> u32
         ensures heap { heap_of B.cells self.new ≡ scans k (heap_of B.cells self.old) }
@@ -78,6 +79,10 @@ impl<B: Bank> Heap<B> {
     {
         let mut popped = 0;
         for _ in 0..k {
+            // Where nothing waits, no scan does anything.
+            if self.waiting.is_empty() {
+                break;
+            }
             popped += self.scan();
         }
         popped
