@@ -11,6 +11,3 @@ pub mod zones;
 
 pub use kind::Kind;
 pub use zone::Zone;
-
-#[cfg(test)]
-mod tests;

@@ -6,5 +6,3 @@ pub mod fault;
 pub mod floor;
 pub mod paced;
 pub mod rule;
-#[cfg(test)]
-mod tests;

@@ -12,6 +12,3 @@ mod verb;
 pub use fault::PlanFault;
 pub use line::Line;
 pub use reading::{Reading, read_plan};
-
-#[cfg(test)]
-mod tests;

@@ -1,6 +1,4 @@
-use crate::fault::PlanFault;
-use crate::line::Line;
-use crate::reading::read_plan;
+use plan::{Line, PlanFault, read_plan};
 use std::test::Fail;
 
 #[test]

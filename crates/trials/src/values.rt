@@ -1,9 +1,9 @@
-use crate::aspect::{Aspect, Seconds, Train};
-use crate::aspects::Aspects;
-use crate::fault::ZoneFault;
-use crate::kind::{Kind, same_value};
-use crate::zone::Zone;
-use crate::zones::Zones;
+use atoms::Zone;
+use atoms::aspect::{Aspect, Seconds, Train};
+use atoms::aspects::Aspects;
+use atoms::fault::ZoneFault;
+use atoms::kind::{Kind, same_value};
+use atoms::zones::Zones;
 use std::test::Fail;
 
 #[test]

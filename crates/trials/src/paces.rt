@@ -1,8 +1,8 @@
-use crate::effort::Effort;
-use crate::fault::EffortFault;
-use crate::floor::FloorRule;
-use crate::paced::PacedRule;
-use crate::rule::StartRule;
+use pacing::effort::Effort;
+use pacing::fault::EffortFault;
+use pacing::floor::FloorRule;
+use pacing::paced::PacedRule;
+use pacing::rule::StartRule;
 use std::test::Fail;
 
 #[test]

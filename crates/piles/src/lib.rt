@@ -1,5 +1,0 @@
-// Piles of banks, worked through on examples and edges.
-#![tactic(auto)]
-
-#[cfg(test)]
-mod tests;
