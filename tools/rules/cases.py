@@ -594,7 +594,7 @@ def layered():
     print("layered: each pile beside it")
     for name, pile in (
         ("window over window", window(window(packed(30), 5, 30), 3, 20)),
-        ("window over join", window(join(packed(30), record(16)), 25, 20)),
+        ("window over join", window(join(record(16), packed(30)), 8, 20)),
         ("window over hold", window(hold(record(30)), 4, 20)),
         ("join over windows", join(window(packed(10), 0, 9), window(record(12), 1, 20))),
         ("join over join", join(join(record(12), record(0)), record(8))),

@@ -102,8 +102,8 @@ fn windows(rt: &HostRuntime, alone: &mut [Cell]) -> anyhow::Result<()> {
     let mut cells = [Cell::BLANK; 16];
     let pile = Window::new(Window::new(PackedBank::new(&mut words), 5, 30), 3, 20);
     compare(rt, "window over window", RecordBank::new(alone), pile)?;
-    let join = Join::new(PackedBank::new(&mut words), RecordBank::new(&mut cells));
-    let pile = Window::new(join, 25, 20);
+    let join = Join::new(RecordBank::new(&mut cells), PackedBank::new(&mut words));
+    let pile = Window::new(join, 8, 20);
     compare(rt, "window over join", RecordBank::new(alone), pile)?;
     let mut many = [Cell::BLANK; 30];
     let pile = Window::new(Hold::new(RecordBank::new(&mut many)), 4, 20);
