@@ -31,7 +31,7 @@ def shape(body):
 
 groups = collections.defaultdict(list)
 for path in sorted(glob.glob("crates/*/src/**/*.rt", recursive=True)):
-    if path.endswith("tests.rt"):
+    if path.startswith("crates/trials/"):
         continue
     for name, body in functions(open(path).read()):
         if len(body.split()) > 6:

@@ -1,4 +1,4 @@
--- Aspects and their codes. Assumes nothing.
+-- Aspects and their codes.
 use Rattle.std.specs.Prelude.{ℕ, ◌+◌, ◌/◌, ◌%◌, if◌then◌else◌, Some, None, Option, ◌==◌}
 use Rattle.std.proofs.Common.{lit<}
 use Rattle.std.proofs.lemmas.Nat.{mod_below}

@@ -1,4 +1,4 @@
--- The bounds that the types of values carry. Assumes nothing.
+-- The bounds that the types of values carry.
 use Rattle.std.specs.Prelude.{ℕ, ◌+◌, ◌<◌, ◌≤◌}
 
 -- a zone's length is 1 to 65,535, and it ends within 65,536 track units

@@ -1,4 +1,4 @@
--- What a kind of atom is: two maps between values and codes, and their law. Assumes nothing.
+-- What a kind of atom is: two maps between values and codes, and their law.
 use Rattle.std.specs.Prelude.{◌≡◌, ◌↔◌, ℕ, ◌^◌, ◌<◌, Some, Option}
 
 pub record Lawful {V : Type 0} (coded : V → ℕ) (valued : ℕ → Option V) : Type 0 where

@@ -1,4 +1,4 @@
--- The laws of the two kinds. They stand among the definitions since the kinds cite them as ghost members. Assumes nothing.
+-- The laws of the two kinds. They stand among the definitions since the kinds cite them as ghost members.
 use Rattle.std.specs.Prelude.{◌≡◌, ℕ, ◌+◌, ◌*◌, ◌%◌, ◌^◌, ◌<◌, Some, Option, refl}
 use Rattle.std.specs.Coded.{le_prop}
 use Rattle.std.proofs.Common.{sym, ap, ◌∙◌, lit<, arith}

@@ -1,4 +1,4 @@
--- What a refusal tells, and how it is written. Assumes nothing.
+-- What a refusal tells, and how it is written.
 use Rattle.std.specs.Prelude.{ℕ, List, [], ◌∷◌, ◌++◌, codes, decimal}
 use Rattle.atoms.specs.declared.fault.ZoneFault.{ZoneFault}
 use Rattle.atoms.specs.declared.fault.ZoneFault.TheVariants.{NotAZone}

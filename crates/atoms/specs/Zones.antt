@@ -1,4 +1,4 @@
--- Zones: which pairs are one, what they cover, and their codes. Assumes nothing.
+-- Zones: which pairs are one, what they cover, and their codes.
 use Rattle.std.specs.Prelude.{ℕ, ◌+◌, ◌*◌, ◌/◌, ◌%◌, Bool, ◌&&◌, List, ◌++◌, Some, None, codes, decimal, Option, nat_le, nat_lt}
 use Rattle.std.proofs.Math.Decide.{dec_le}
 use Rattle.atoms.specs.Bounds.{IsZone}

@@ -6,7 +6,7 @@ pub type Seconds = Byte<HoldTime>;
 // The number of a train, 0 to 255.
 pub type Train = Byte<TrainNumber>;
 
-// What a byte is of: names alone, which have no value.
+// What a byte counts: types without values, which only name it.
 pub enum HoldTime {}
 
 pub enum TrainNumber {}

@@ -11,7 +11,7 @@ pub enum BankFault {
 }
 
 impl BankFault {
-    // The number by which reports name the refusal. A method of each fault and not of a trait, since no code is generic in faults.
+    // The number by which reports name the refusal.
     pub fn number(&self) -> u8
         ensures { result ≡ (told self.now).0 }
     {

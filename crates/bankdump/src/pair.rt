@@ -16,7 +16,7 @@ pub struct ZonePair {
 #[derive(Clone, Copy, PartialEq, Eq, Debug)]
 pub struct NotAPair;
 
-// By hand: a crate that derives it is more than these lines.
+// By hand: a derive would need one more crate.
 impl From<ParseIntError> for NotAPair {
     fn from(_: ParseIntError) -> NotAPair {
         NotAPair

@@ -64,9 +64,11 @@ fn compare<A: Bank + Drop, B: Bank + Drop>(
     let calls = round()?;
     let mut first = zone_store(alone, 6, 3, 3)?;
     let mut second = zone_store(pile, 6, 3, 3)?;
+    let mut made = 0_u32;
     let mut same = 0_u32;
     for _ in 0..ROUNDS {
         for call in &calls {
+            made = made.saturating_add(1);
             let answer = first.apply(call);
             if second.apply(call) == answer && Place::of(&first) == Place::of(&second) {
                 same = same.saturating_add(1);
@@ -74,15 +76,16 @@ fn compare<A: Bank + Drop, B: Bank + Drop>(
         }
     }
     print!(rt;
-        "  {name}: {same} of 90 calls alike, {}",
+        "  {name}: {same} of {made} calls alike, {}",
         Place::of(&second)
     )?;
     let wide = Reply::from(&second.apply(&Call::Load(0, zone(4096, 1)?)));
     let (alone, _, _) = first.into_parts();
     let (pile, _, _) = second.into_parts();
     println!(rt;
-        ", {} of 20 cells alike; load 0 4096 1: {wide}",
-        alike(&alone, &pile)
+        ", {} of {} cells alike; load 0 4096 1: {wide}",
+        alike(&alone, &pile),
+        alone.size()
     )?;
     Ok(())
 }

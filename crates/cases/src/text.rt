@@ -5,7 +5,6 @@ use atoms::zones::Zones;
 use bank::{Bank, Cell, Word};
 use collector::{Call, Phase};
 use pacing::effort::Effort;
-use pacing::fault::EffortFault;
 use pacing::floor::FloorRule;
 use replies::{LineFault, Reply};
 use std::fmt;

@@ -1,4 +1,4 @@
--- The store and the endless heap hold the same, under other numbers. Assumes nothing.
+-- The store and the endless heap hold the same, under other numbers.
 use Rattle.std.proofs.Common.{◌≡◌, ℕ, zero, suc, ◌<◌, List, [], ◌∷◌, map, length, get_or, set, sym, refl, ap, ◌∙◌, subst, inl, inr, rules}
 use Rattle.std.proofs.lemmas.List.{map-set}
 use Rattle.bank.specs.declared.word.Word.{Word}

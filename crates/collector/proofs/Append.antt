@@ -1,4 +1,4 @@
--- A new cell in the store is a new cell in the endless heap. Assumes nothing.
+-- A new cell in the store is a new cell in the endless heap.
 use Rattle.std.proofs.Common.{◌≡◌, ℕ, ◌<◌, cond, eqb, ◌⊎◌, List, [], ◌∷◌, map, length, set, sym, refl, ap, ◌∙◌, inl, inr, arith, rules}
 use Rattle.std.proofs.lemmas.List.{map-set, get_or_append_left, get_or_push, length_push}
 use Rattle.bank.specs.declared.word.Word.{Word}

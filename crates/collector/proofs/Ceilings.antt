@@ -1,4 +1,4 @@
--- Quotients rounded up, and the arithmetic of the starvation bound. Assumes nothing.
+-- Quotients rounded up, and the arithmetic of the starvation bound.
 use Rattle.std.proofs.Common.{◌≡◌, ℕ, ◌+◌, ◌-◌, ◌*◌, ◌<◌, ◌≤◌, min, ◌⊎◌, ap, ◌∙◌, subst, inl, inr, mul-le-mul_left, arith, rules}
 use Rattle.std.proofs.lemmas.Bool.{cases_lt}
 use Rattle.collector.specs.Laws.{ceiling, turns_for, Enough}

@@ -1,4 +1,4 @@
--- Reading cells after a change of one. Assumes nothing.
+-- Reading cells after a change of one.
 use Rattle.std.proofs.Common.{◌≡◌, ℕ, ◌<◌, ◌≤◌, false, ◌≢◌, List, length, ap, length-set, get_or-set_other, get_or-set_same, rules}
 use Rattle.std.proofs.lemmas.List.{get_or_default, get_or_past, set_past}
 use Rattle.std.proofs.lemmas.Bool.{cases_eq, cases_lt}

@@ -1,4 +1,4 @@
--- The free list as a chain of cells. Assumes nothing.
+-- The free list as a chain of cells.
 use Rattle.std.proofs.Common.{◌≡◌, ℕ, zero, suc, ◌≤◌, List, [], ◌∷◌, length, refl, inr, arith, rules}
 use Rattle.bank.specs.declared.word.Word.{Word}
 use Rattle.bank.specs.Words.{number_of}

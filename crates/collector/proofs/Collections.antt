@@ -1,4 +1,4 @@
--- What holds of a collection at each of its turns holds of every collection of a run. Assumes nothing.
+-- What holds of a collection at each of its turns holds of every collection of a run.
 use Rattle.std.proofs.Common.{◌≡◌, Bool, true, false, List, [], ◌∷◌, rules}
 use Rattle.collector.specs.declared.phase.Phase.{Phase}
 use Rattle.collector.specs.Lists.{Each}

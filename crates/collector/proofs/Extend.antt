@@ -1,4 +1,4 @@
--- A run grows by one call at its end. Assumes nothing.
+-- A run grows by one call at its end.
 use Rattle.std.proofs.Common.{◌≡◌, ℕ, Bool, List, [], ◌∷◌, ◌++◌, refl, sym, ◌∙◌, ap, subst, rules}
 use Rattle.collector.specs.declared.call.Call.{Call}
 use Rattle.collector.specs.States.{Fixed, State, new}

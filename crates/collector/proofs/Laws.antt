@@ -1,4 +1,4 @@
--- The laws of every run. Assumes nothing.
+-- The laws of every run.
 use Rattle.std.proofs.Common.{◌≡◌, ℕ, ◌-◌, ◌≤◌, Bool, true, false, List, [], ◌∷◌, Some, None, Ok, Err, Option, sym, refl, ap, ◌∙◌, subst, inl, inr, arith, rules}
 use Rattle.std.proofs.lemmas.Bool.{cases_eq, both_ways}
 use Rattle.bank.specs.declared.word.Word.{Word}

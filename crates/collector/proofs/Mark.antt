@@ -1,4 +1,4 @@
--- Offers and scans keep the invariant of marking. Assumes nothing.
+-- Offers and scans keep the invariant of marking.
 use Rattle.std.proofs.Common.{◌≡◌, ℕ, ◌<◌, ◌≤◌, Bool, true, false, List, ◌∷◌, length, arith, rules}
 use Rattle.std.proofs.lemmas.Bool.{cases_eq}
 use Rattle.bank.specs.Words.{with_mark}

@@ -1,4 +1,4 @@
--- What a turn leaves as it was: the registers, what is fixed, and the words of live cells. Assumes nothing.
+-- What a turn leaves as it was: the registers, what is fixed, and the words of live cells.
 use Rattle.std.proofs.Common.{◌≡◌, ℕ, Bool, true, false, sym, refl, ◌∙◌, rules}
 use Rattle.collector.specs.declared.phase.Phase.{Phase}
 use Rattle.collector.specs.States.{State, at, size}

@@ -1,4 +1,4 @@
--- How many turns a collection takes, and how its count of free cells goes. Assumes nothing.
+-- How many turns a collection takes, and how its count of free cells goes.
 use Rattle.std.proofs.Common.{◌≡◌, ℕ, zero, suc, ◌+◌, ◌-◌, ◌*◌, ◌<◌, ◌≤◌, min, Bool, true, false, cond, leb, ◌⊎◌, List, [], ◌∷◌, ◌++◌, length, refl, ap, inl, inr, arith, length-append, rules}
 use Rattle.std.proofs.lemmas.Bool.{both_ways, leb-false}
 use Rattle.bank.specs.declared.word.Cell.{Cell}

@@ -1,4 +1,4 @@
--- One cell is changed to one that holds sound words: what that keeps of the invariant. Assumes nothing.
+-- One cell is changed to one that holds sound words: what that keeps of the invariant.
 use Rattle.std.proofs.Common.{◌≡◌, ℕ, ◌<◌, ◌≤◌, true, false, ◌⊎◌, List, [], length, subst, arith, rules}
 use Rattle.std.proofs.lemmas.Bool.{cases_eq}
 use Rattle.bank.specs.declared.word.Word.{Word}

@@ -1,4 +1,4 @@
--- A word of a live cell is replaced: what that keeps of the invariant. Assumes nothing.
+-- A word of a live cell is replaced: what that keeps of the invariant.
 use Rattle.std.proofs.Common.{◌≡◌, ℕ, ◌⊎◌, List, rules, ap}
 use Rattle.bank.specs.Banks.{changed}
 use Rattle.bank.specs.declared.word.Word.{Word}

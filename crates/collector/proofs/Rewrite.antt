@@ -1,4 +1,4 @@
--- A replaced word in the store is a replaced word in the endless heap. Assumes nothing.
+-- A replaced word in the store is a replaced word in the endless heap.
 use Rattle.std.proofs.Common.{◌≡◌, ℕ, ◌⊎◌, set, ◌∙◌, inl, inr, length-set, get_or-set_other, arith, rules}
 use Rattle.std.proofs.lemmas.Bool.{cases_eq}
 use Rattle.bank.specs.Words.{with_car, with_cdr}

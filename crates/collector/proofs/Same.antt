@@ -1,4 +1,4 @@
--- Cells whose words are the same: what does not speak of marks carries over. Assumes nothing.
+-- Cells whose words are the same: what does not speak of marks carries over.
 use Rattle.std.proofs.Common.{◌≡◌, ℕ, Bool, true, List, [], ◌∷◌, length, sym, refl, ◌∙◌, rules}
 use Rattle.bank.specs.Words.{with_mark}
 use Rattle.bank.specs.Banks.{changed}

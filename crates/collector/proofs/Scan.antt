@@ -1,4 +1,4 @@
--- The turns of marking: its beginning, its scans, and its end. Assumes nothing.
+-- The turns of marking: its beginning, its scans, and its end.
 use Rattle.std.proofs.Common.{◌≡◌, ℕ, zero, suc, ◌≤◌, true, List, [], ◌∷◌, ◌++◌, length, refl, inl, inr, append_assoc, arith, rules}
 use Rattle.bank.specs.declared.word.Word.{Word}
 use Rattle.bank.specs.declared.word.Cell.{Cell}

@@ -1,4 +1,4 @@
--- Facts about lists as sets of numbers. Assumes nothing.
+-- Facts about lists as sets of numbers.
 use Rattle.std.proofs.Common.{◌≡◌, ℕ, zero, suc, ◌<◌, ◌≤◌, true, ◌⊎◌, List, [], ◌∷◌, ◌++◌, ◌+◌, length, get_or, set, sym, refl, ap, subst, inl, inr, arith, rules}
 use Rattle.std.specs.List.{range_with_len}
 use Rattle.std.proofs.lemmas.List.FromFn.{length-range_with_len}

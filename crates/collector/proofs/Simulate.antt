@@ -1,4 +1,4 @@
--- Each call comes in the store to what it comes to in the endless heap. Assumes nothing.
+-- Each call comes in the store to what it comes to in the endless heap.
 use Rattle.std.proofs.Common.{◌≡◌, ℕ, Bool, true, false, leb, ◌⊎◌, List, [], ◌∷◌, map, length, Some, None, Ok, Option, sym, refl, ap, ◌∙◌, subst, inl, inr, arith, rules}
 use Rattle.std.proofs.lemmas.Bool.{cases_eq}
 use Rattle.bank.specs.Words.{with_car, with_cdr}

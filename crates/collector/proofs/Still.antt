@@ -1,4 +1,4 @@
--- What the calls leave alone besides the turn. Assumes nothing.
+-- What the calls leave alone besides the turn.
 use Rattle.std.proofs.Common.{◌≡◌, ℕ, ◌-◌, Bool, true, false, leb, Some, None, Option, sym, refl, subst, inl, inr, rules}
 use Rattle.std.proofs.lemmas.Bool.{cases_eq}
 use Rattle.bank.specs.Words.{with_car, with_cdr}

@@ -1,4 +1,4 @@
--- Under the starvation bound there is a free cell after every turn. Assumes nothing.
+-- Under the starvation bound there is a free cell after every turn.
 use Rattle.std.proofs.Common.{◌≡◌, ℕ, ◌+◌, ◌-◌, ◌*◌, ◌≤◌, min, Bool, true, false, cond, leb, List, [], ◌++◌, length, ap, ◌∙◌, inl, inr, mul-le-mul_left, arith, length-append, rules}
 use Rattle.std.proofs.lemmas.Bool.{cases_lt, leb-true}
 use Rattle.collector.specs.declared.phase.Phase.{Phase}

@@ -1,4 +1,4 @@
--- The sweep of a cell keeps the invariant. Assumes nothing.
+-- The sweep of a cell keeps the invariant.
 use Rattle.std.proofs.Common.{◌≡◌, ℕ, zero, suc, ◌+◌, ◌<◌, ◌≤◌, min, Bool, true, false, ltb, ◌⊎◌, List, [], ◌∷◌, ◌++◌, length, refl, ap, ◌∙◌, inl, inr, append_assoc, arith, length-append, rules}
 use Rattle.std.proofs.lemmas.Bool.{cases_eq, ltb-true}
 use Rattle.bank.specs.Words.{with_car, with_cdr, with_mark}

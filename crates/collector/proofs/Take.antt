@@ -1,4 +1,4 @@
--- A free cell is taken: what it keeps of the invariant. Assumes nothing.
+-- A free cell is taken: what it keeps of the invariant.
 use Rattle.std.proofs.Common.{◌≡◌, ℕ, ◌-◌, ◌<◌, ◌≤◌, Bool, true, leb, List, [], ◌∷◌, length, set, Ok, ap, arith, rules, inr}
 use Rattle.std.proofs.lemmas.Bool.{cases_eq, cases_lt, le-leb, lt-leb}
 use Rattle.bank.specs.Words.{number_of, with_car, with_cdr, with_mark}

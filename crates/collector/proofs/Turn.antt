@@ -1,4 +1,4 @@
--- A turn keeps the invariant. Assumes nothing.
+-- A turn keeps the invariant.
 use Rattle.std.proofs.Common.{◌≡◌, ℕ, ◌+◌, ◌<◌, ◌≤◌, min, Bool, true, false, cond, leb, List, [], ◌++◌, length, sym, refl, subst, inl, inr, rules}
 use Rattle.std.proofs.lemmas.Bool.{both_ways}
 use Rattle.bank.specs.declared.word.Word.{Word}

@@ -46,6 +46,10 @@ absent (r ∷ rs) = if nat_lt r 16 then absent rs else Some r
 abbrev pub register : List Word → ℕ → Word
 register registers r = slice_index_or registers r Word.Nil
 
+-- What a question for register r is answered.
+abbrev pub register_asked : List Word → ℕ → Result Word StoreFault
+register_asked registers r = if nat_lt r 16 then Ok (register registers r) else Err (StoreFault.NoRegister r)
+
 -- What a look at a word shows. A code with no value, and reserved, stand in no register that calls lead to.
 abbrev pub value_seen : {V : Type 0} → Option V → Seen V
 value_seen None = Seen.Nil

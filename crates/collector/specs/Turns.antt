@@ -92,7 +92,7 @@ abbrev pub sweeps : ℕ → ℕ → Ground → Ground
 sweeps limit zero g = g
 sweeps limit (suc k) g = sweeps limit k (sweep limit g)
 
--- The cells that these sweeps free.
+-- The cells that these sweeps free, by the tests of `sweep_if` and `treat`: exactly those that are made the head of the free list.
 abbrev pub frees_if : Bool → Bool → Bool → ℕ → List ℕ
 frees_if true false false n = n ∷ []
 frees_if true false true n = []

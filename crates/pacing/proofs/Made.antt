@@ -1,4 +1,4 @@
--- Each effort is the effort of its numbers. Assumes nothing.
+-- Each effort is the effort of its numbers.
 use Rattle.std.proofs.Common.{◌≡◌, Some, ap}
 use Rattle.std.proofs.Props.{props}
 use Rattle.pacing.specs.Shares.{IsEffort}

@@ -1,10 +1,10 @@
--- The paced rule over a whole run of questions. Assumes nothing.
+-- The paced rule over a whole run of questions.
 use Rattle.std.proofs.Common.{◌≡◌, ℕ, List, [], ◌∷◌, refl, ap, arith}
 use Rattle.pacing.specs.Paced.{paced_says, fresh, next, after, answers, noes, KeepsPace}
 use Rattle.pacing.specs.declared.paced.PacedRule.{PacedRule}
 
 -- the tally is the noes since the last yes; floor and pace stay
-tallies : (r : PacedRule) (asked : List ℕ) → after r asked ≡ record { floor = r.floor; pace = r.pace; refusals = noes r.refusals (answers r asked) }
+tallies : (r : PacedRule) (asked : List ℕ) → after r asked ≡ record { floor = r.floor; pace = r.pace; tally = noes r.tally (answers r asked) }
 tallies r [] = refl
 tallies r (count ∷ counts) = grind (arith, tallies (next r count) counts)
 

@@ -1,4 +1,4 @@
--- Which pairs make an effort. Assumes nothing.
+-- Which pairs make an effort.
 use Rattle.std.specs.Prelude.{ℕ, Some, None, Option}
 use Rattle.std.proofs.Math.Decide.{dec_le}
 use Rattle.pacing.specs.Shares.{IsShare, IsEffort}

@@ -1,4 +1,4 @@
--- The floor rule. Assumes nothing.
+-- The floor rule.
 use Rattle.std.specs.Prelude.{◌≡◌, ℕ, Bool, nat_le}
 use Rattle.std.proofs.lemmas.Bool.{le-leb}
 use Rattle.pacing.specs.Rules.{Lawful}

@@ -1,4 +1,4 @@
--- The paced rule. Assumes nothing.
+-- The paced rule.
 use Rattle.std.specs.Prelude.{◌≡◌, ℕ, ◌+◌, Bool, true, false, if◌then◌else◌, ◌||◌, List, [], ◌∷◌, nat_le}
 use Rattle.std.proofs.lemmas.Bool.{le-leb, or_left}
 use Rattle.pacing.specs.Rules.{Lawful}
@@ -9,21 +9,21 @@ paced_floor r = r.floor
 
 -- yes to the counts up to the floor, and to any count once it has said no as often as its pace
 abbrev pub paced_says : PacedRule → ℕ → Bool
-paced_says r count = nat_le count r.floor || nat_le r.pace r.refusals
+paced_says r count = nat_le count r.floor || nat_le r.pace r.tally
 
 -- a new rule, which has not said no yet
 abbrev pub fresh : ℕ → ℕ → PacedRule
-fresh floor pace = record { floor = floor; pace = pace; refusals = 0 }
+fresh floor pace = record { floor = floor; pace = pace; tally = 0 }
 
 -- the rule after it was asked: a yes begins the tally anew, a no adds one
 abbrev pub next : PacedRule → ℕ → PacedRule
-next r count = record { floor = r.floor; pace = r.pace; refusals = if paced_says r count then 0 else r.refusals + 1 }
+next r count = record { floor = r.floor; pace = r.pace; tally = if paced_says r count then 0 else r.tally + 1 }
 
 abbrev pub paced_becomes : PacedRule → ℕ → PacedRule → Type 0
 paced_becomes r count after = after ≡ next r count
 
 pub paced-law : (r : PacedRule) → Lawful (paced_floor r) (paced_says r)
-paced-law r count low = or_left (nat_le count r.floor) (nat_le r.pace r.refusals) (le-leb count r.floor low)
+paced-law r count low = or_left (nat_le count r.floor) (nat_le r.pace r.tally) (le-leb count r.floor low)
 
 -- the rule after it was asked with these counts, one after another
 abbrev pub after : PacedRule → List ℕ → PacedRule

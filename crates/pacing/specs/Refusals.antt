@@ -1,4 +1,4 @@
--- What a refusal tells. Assumes nothing.
+-- What a refusal tells.
 use Rattle.std.specs.Prelude.{ℕ, List, [], ◌∷◌}
 use Rattle.pacing.specs.declared.fault.EffortFault.{EffortFault}
 use Rattle.pacing.specs.declared.fault.EffortFault.TheVariants.{OutOfRange}

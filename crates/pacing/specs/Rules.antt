@@ -1,4 +1,4 @@
--- What a start rule is: a floor, and yes or no for each free count. Assumes nothing.
+-- What a start rule is: a floor, and yes or no for each free count.
 use Rattle.std.specs.Prelude.{◌≡◌, ℕ, ◌≤◌, Bool, true}
 
 -- a count at or below the floor gets yes

@@ -1,4 +1,4 @@
--- The bounds of an effort. Assumes nothing.
+-- The bounds of an effort.
 use Rattle.std.specs.Prelude.{ℕ, ◌≤◌}
 
 -- what one turn may treat: 1 to 64 cells

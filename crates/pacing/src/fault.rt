@@ -8,7 +8,7 @@ pub enum EffortFault {
 }
 
 impl EffortFault {
-    // The number by which reports name the refusal. A method of each fault and not of a trait, since no code is generic in faults.
+    // The number by which reports name the refusal.
     pub fn number(&self) -> u8
         ensures { result ≡ (told self.now).0 }
     {

@@ -9,7 +9,7 @@ use super::rule::StartRule;
 pub struct PacedRule {
     floor: u32,
     pace: u16,
-    refusals: u16,
+    tally: u16,
 }
 
 impl PacedRule {
@@ -20,7 +20,7 @@ impl PacedRule {
         PacedRule {
             floor,
             pace,
-            refusals: 0,
+            tally: 0,
         }
     }
 }
@@ -43,9 +43,9 @@ impl StartRule for PacedRule {
         ensures keeps { paced_floor self.new ≡ paced_floor self.old }
         ensures after { self.new ≡ next self.old count }
     {
-        let start = count <= self.floor || self.refusals >= self.pace;
+        let start = count <= self.floor || self.tally >= self.pace;
         // A no is only said below the pace, so the tally never passes it.
-        self.refusals = if start { 0 } else { self.refusals + 1 };
+        self.tally = if start { 0 } else { self.tally + 1 };
         start
     }
 }

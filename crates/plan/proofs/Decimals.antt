@@ -1,4 +1,4 @@
--- What the decimal of a number of at most five digits looks like. Assumes nothing.
+-- What the decimal of a number of at most five digits looks like.
 use Rattle.std.proofs.Common.{◌≡◌, ℕ, suc, ◌+◌, ◌*◌, ◌/◌, ◌%◌, ◌<◌, ◌≤◌, List, [], ◌∷◌, ◌++◌, length, get_or, decimal, ap, ◌∙◌, inl, inr, arith}
 use Rattle.std.proofs.lemmas.Fmt.{decimal_digit, decimal_step, decimal_by_steps, length-decimal-le, decimal_nonempty, first_decimal}
 use Rattle.std.proofs.lemmas.List.{length-append, length_push}

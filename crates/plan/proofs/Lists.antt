@@ -1,4 +1,4 @@
--- Texts that are made of parts, and how they come apart again. Assumes nothing.
+-- Texts that are made of parts, and how they come apart again.
 use Rattle.std.specs.List.{AllByRecursion as All}
 use Rattle.std.proofs.Common.{◌≡◌, ℕ, ◌⊎◌, List, [], ◌∷◌, ◌++◌, get_or, drop, sym, refl, ap, subst, inl, inr}
 

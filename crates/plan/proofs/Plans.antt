@@ -1,5 +1,5 @@
--- A plan, line by line. Assumes nothing.
-use Rattle.std.proofs.Common.{◌≡◌, ℕ, suc, ◌+◌, ◌-◌, ◌<◌, ◌≤◌, Bool, true, false, eqb, List, [], ◌∷◌, ◌++◌, length, Some, None, sym, refl, ap, arith}
+-- A plan, line by line.
+use Rattle.std.proofs.Common.{◌≡◌, ℕ, suc, ◌+◌, ◌-◌, ◌<◌, ◌≤◌, Bool, true, false, eqb, List, [], ◌∷◌, ◌++◌, length, Some, sym, refl, ap, arith}
 use Rattle.std.proofs.lemmas.List.{append_assoc, append-nil, length-append, length_push}
 use Rattle.std.proofs.lemmas.Bool.{ne_eqb}
 use Rattle.plan.specs.declared.line.Line.{Line}
@@ -39,9 +39,6 @@ pub record Sofar (bs : List ℕ) (ls : List Line) (left : List ℕ) : Type 0 whe
   pub again : bs ≡ plan_text ls ++ left
   pub few : length ls + length left ≤ length bs
 
-pub sofar-none : (bs : List ℕ) → Sofar bs [] bs
-sofar-none bs = record { ordered = tt; again = refl; few = omega arith }
-
 ordered-more : (first : Bool) (ls : List Line) (l : Line) → Ordered first ls → Stands (next first ls) l → Ordered first (ls ++ (l ∷ []))
 ordered-more first [] l o s = (s, tt)
 ordered-more first (x ∷ ls) l o s = (o.0, ordered-more false ls l o.1 (rw (next-later ls) s))
@@ -58,9 +55,6 @@ module _ (bs : List ℕ) (ls : List Line) (left : List ℕ) (s : Sofar bs ls lef
         again = cc (s.again, h.cut, append_assoc (plan_text ls) (line_text l) rest, text-more ls l);
         few = omega (arith, s.few, line-shorter (opening ls) left l rest h, length_push ls l);
       }
-
-  pub parses-end : left ≡ [] → opening ls ≡ false → Parses bs ls None
-  parses-end e o = record { left = left; ordered = s.ordered; again = s.again; ends = (e, o) }
 
   pub parses-fault : (rest : List ℕ) → Stuck (Written (opening ls)) left rest → (opening ls ≡ false → 0 < length left) → Parses bs ls (Some (Malformed (length ls + 1) (length left - length rest + 1)))
   parses-fault rest k inside =

@@ -1,4 +1,4 @@
--- The numbers of a line, one after another. Assumes nothing.
+-- The numbers of a line, one after another.
 use Rattle.std.proofs.Common.{◌≡◌, ℕ, zero, suc, ◌<◌, ◌≤◌, List, [], ◌∷◌, ◌++◌, length, replicate, decimal, sym, refl, ap, ◌∙◌, subst, arith}
 use Rattle.std.proofs.lemmas.Fmt.{decimal_nonempty}
 use Rattle.std.proofs.lemmas.List.{append_assoc, length-append, length-replicate}
@@ -118,9 +118,6 @@ stuck-end left n text t e small full ne =
 pub record Read (count left : ℕ) (ns text mid : List ℕ) : Type 0 where
   pub reads : (ms rest : List ℕ) → NumbersAt left mid ms rest → NumbersAt count text (ns ++ ms) rest
   pub fails : (rest : List ℕ) → Stuck (Numbers left) mid rest → Stuck (Numbers count) text rest
-
-pub read_none : (count : ℕ) (text : List ℕ) → Read count count [] text text
-read_none count text = record { reads = λ ms rest h. h; fails = λ rest h. h }
 
 pub read_more : {count left n : ℕ} {ns text mid next : List ℕ} → Read count (suc left) ns text mid → NumberAt left mid n next → Read count left (ns ++ (n ∷ [])) text next
 read_more {count} {left} {n} {ns} {text} {mid} {next} r h =

@@ -1,4 +1,4 @@
--- Texts that begin in one way and go on in another. Assumes nothing.
+-- Texts that begin in one way and go on in another.
 use Rattle.std.proofs.Common.{◌≡◌, ℕ, List, [], ◌∷◌, ◌++◌, sym, subst}
 use Rattle.std.proofs.lemmas.List.{append_assoc}
 use Rattle.plan.specs.Readings.{Halts, Stuck}

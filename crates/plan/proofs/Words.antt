@@ -1,4 +1,4 @@
--- The name that a line begins with. Assumes nothing.
+-- The name that a line begins with.
 use Rattle.std.proofs.Common.{◌≡◌, ℕ, ◌+◌, ◌-◌, ◌<◌, ◌≤◌, max, Bool, true, false, cond, ◌==◌, ◌⊎◌, List, [], ◌∷◌, ◌++◌, length, take, drop, Some, None, Option, fold, replicate, sym, refl, ap, ◌∙◌, subst, inl, inr, arith}
 use Rattle.std.specs.List.{starts_with}
 use Rattle.std.proofs.lemmas.Bool.{cases_lt, both_ways}
@@ -111,9 +111,6 @@ closest-within vs t = elim (furthest 0 vs t).met [
   | inl y ↦ omega (arith, y)
   | inr y ↦ omega (arith, y.2, (agree-le (word y.0) t).1)
 ]
-
-pub found-within : (vs : List Verb) (t : List ℕ) (v : Verb) → found vs t ≡ Some v → length (word v) ≤ length t
-found-within vs t v e = let h = (hit vs t v e).1 in omega (arith, ap (λ (l : List ℕ). length l) h, length-append (word v) (drop (length (word v)) t))
 
 -- the verbs of the table that fits, and no others, may stand there
 pub name-at : (first : Bool) (t : List ℕ) (v : Verb) → found (table first) t ≡ Some v → NameAt first t v (drop (length (word v)) t)

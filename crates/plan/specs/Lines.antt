@@ -1,4 +1,4 @@
--- How the lines of a plan are written. Assumes nothing.
+-- How the lines of a plan are written.
 use Rattle.std.specs.Prelude.{◌≡◌, ℕ, ◌≤◌, Bool, true, false, List, [], ◌∷◌, ◌++◌, codes, decimal}
 use Rattle.plan.specs.declared.line.Line.{Line}
 

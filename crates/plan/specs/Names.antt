@@ -1,4 +1,4 @@
--- Which of several names stands at the front of a text. Assumes nothing.
+-- Which of several names stands at the front of a text.
 use Rattle.std.specs.Prelude.{ℕ, max, Bool, true, false, List, [], ◌∷◌, length, ◌==◌, Option, fold}
 use Rattle.std.specs.List.{find, starts_with, take_while, zip}
 use Rattle.plan.specs.declared.verb.Verb.{Verb}

@@ -1,4 +1,4 @@
--- What the reader's parts find at the front of a text, and what they leave of it. Assumes nothing.
+-- What the reader's parts find at the front of a text, and what they leave of it.
 use Rattle.std.specs.Prelude.{◌≡◌, ℕ, zero, suc, ◌≤◌, Bool, List, [], ◌∷◌, ◌++◌, length, decimal, Result, MatchResult}
 use Rattle.plan.specs.declared.line.Line.{Line}
 use Rattle.plan.specs.declared.verb.Verb.{Verb}

@@ -1,4 +1,4 @@
--- What the reading of a text is. Assumes nothing.
+-- What the reading of a text is.
 use Rattle.std.specs.Prelude.{◌≡◌, ℕ, ◌+◌, ◌<◌, ◌≤◌, Bool, true, false, List, [], ◌∷◌, ◌++◌, length, Some, None, Option}
 use Rattle.plan.specs.declared.line.Line.{Line}
 use Rattle.plan.specs.declared.fault.PlanFault.{PlanFault}

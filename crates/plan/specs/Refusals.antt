@@ -1,4 +1,4 @@
--- What the refusal of a plan tells. Assumes nothing.
+-- What the refusal of a plan tells.
 use Rattle.std.specs.Prelude.{ℕ, List, [], ◌∷◌, ◌++◌, codes, decimal}
 use Rattle.plan.specs.declared.fault.PlanFault.{PlanFault}
 use Rattle.plan.specs.declared.fault.PlanFault.TheVariants.{TooLong, Malformed}

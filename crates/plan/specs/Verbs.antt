@@ -1,4 +1,4 @@
--- A call's name with the numbers that it takes. Assumes nothing.
+-- A call's name with the numbers that it takes.
 use Rattle.std.specs.Prelude.{ℕ, Bool, List, [], ◌∷◌, ◌++◌, length}
 use Rattle.plan.specs.declared.line.Line.{Line}
 use Rattle.plan.specs.declared.verb.Verb.{Verb}

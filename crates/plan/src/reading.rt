@@ -13,7 +13,7 @@ use std::alloc::{AllocError, Global};
 pub const LIMIT: usize = 32_768;
 
 // The fewest bytes that a line has.
-const FEWEST: usize = 7;
+const FEWEST_LINE_BYTES: usize = 7;
 
 // The lines of a plan up to its end, or up to the fault that ends it.
 #[derive(PartialEq, Eq, Debug, Drop)]
@@ -46,7 +46,7 @@ fn read_lines(heap: Global, bytes: &[u8]) -> Result<Reading, AllocError>
     requires { length bytes.now ≤ 32768 }
     ensures { IfOk result (λ p. Parses bytes.now p.lines.items p.fault) }
 {
-    let mut lines = Vec::with_capacity(heap, bytes.len() / FEWEST + 1)?;
+    let mut lines = Vec::with_capacity(heap, bytes.len() / FEWEST_LINE_BYTES + 1)?;
     let mut text = Scanner { rest: bytes };
     // A plan has at least one line.
     while !text.rest.is_empty() || lines.is_empty() {

@@ -1,4 +1,4 @@
--- Under the floor rule the calls alone say how a run goes. Assumes nothing.
+-- Under the floor rule the calls alone say how a run goes.
 use Rattle.std.proofs.Common.{◌≡◌, ℕ, [], ◌∷◌, List, sym, refl, ap, ◌∙◌, subst, rules}
 use Rattle.collector.specs.Laws.{RuledRun, Lawful}
 use Rattle.collector.specs.Outcomes.{Outcome}

@@ -5,6 +5,7 @@ use Rattle.atoms.specs.Zones.{zone_code, zone_of}
 use Rattle.collector.specs.Laws.{Lawful}
 use Rattle.collector.specs.Runs.{Event, outcomes, under_floor}
 use Rattle.collector.specs.States.{Fixed, new}
+use Rattle.memory.specs.Packing.{packed_top}
 use Rattle.pacing.specs.declared.fault.EffortFault.{EffortFault}
 use Rattle.plan.specs.declared.fault.PlanFault.{PlanFault}
 use Rattle.plan.specs.declared.line.Line.{Line}
@@ -35,7 +36,7 @@ later (l ∷ ls) = ls
 abbrev pub events_of : ℕ → ℕ → Opening → List Line → List (Event Zone)
 events_of limit size opening ls = under_floor opening.floor (new (plan_fixed limit opening) size) (calls_of_lines ls)
 
--- The replies to the lines after the first: each is by the outcome of the line's call in that run, or by the line's own refusal; and the laws of runs hold of it.
+-- The replies: `ok` to the store line, and then to each later line by the outcome of its call in that run, or by the line's own refusal; and the laws of runs hold of it.
 pub record Served (limit size : ℕ) (opening : Opening) (ls : List Line) (rs : List Reply) : Type 0 where
   pub replied : rs ≡ Reply.Done ∷ replies_of_lines ls (outcomes (new (plan_fixed limit opening) size) (events_of limit size opening ls))
   pub lawful : Lawful (plan_fixed limit opening) size (events_of limit size opening ls)
@@ -43,7 +44,7 @@ pub record Served (limit size : ℕ) (opening : Opening) (ls : List Line) (rs : 
 -- The replies to a plan's lines, by how it opens: a store of that many packed cells, 4,096 at most.
 abbrev pub RepliedBy : Result (Option Opening) EffortFault → List Line → List Reply → Type 0
 RepliedBy (Ok None) ls rs = rs ≡ []
-RepliedBy (Ok (Some opening)) ls rs = Served 268435455 (min opening.cells 4096) opening ls rs
+RepliedBy (Ok (Some opening)) ls rs = Served packed_top (min opening.cells 4096) opening ls rs
 RepliedBy (Err fault) ls rs = rs ≡ Reply.Refused (LineFault.Effort fault) ∷ []
 
 abbrev pub Replied : List Line → List Reply → Type 0

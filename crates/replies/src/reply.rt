@@ -1,4 +1,4 @@
-// What is printed for a line of a plan. Flat, and no result of an answer: its cases are the texts that there are.
+// What is printed for a line of a plan: one case for each form of text, refusals included.
 ghost use Rattle.std.specs.Prelude.{◌≡◌, Some};
 ghost use Rattle.replies.specs.Replies.{reply_text, reply_in, reply_of, answer_reply, seen_reply};
 

@@ -15,7 +15,8 @@ use plan::{Line, PlanFault, read_plan};
 use std::alloc::{AllocError, Global};
 use store::run;
 
-// The replies of a new store over a bank to the lines after the first. Any bank will do, and the caller's is out of sight here: a store whose bank holds a loan cannot stand in a result at its own type.
+// The replies of a new store over a bank. Generic in the bank, since a store whose bank holds a loan cannot stand in a result at
+// its own type.
 #[tactic(auto, using(crate::proofs::Floors::run_under_floor))]
 fn serve_on<B: Bank + Drop>(
     heap: Global,

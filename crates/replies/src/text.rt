@@ -6,8 +6,8 @@ use super::reply::Reply;
 use std::alloc::{AllocError, Global};
 use std::fmt::Write;
 
-// As many bytes as most lines have at most.
-const USUAL: usize = 8;
+// Most replies have no more bytes.
+const USUAL_REPLY_BYTES: usize = 8;
 
 fn push_line(text: &mut String, reply: Reply) -> Result<(), AllocError>
     ensures { OnOk result (string_bytes text.new ≡ string_bytes text.old ++ line_of reply) }
@@ -19,7 +19,7 @@ fn push_line(text: &mut String, reply: Reply) -> Result<(), AllocError>
 pub fn replies_text(heap: Global, replies: &[Reply]) -> Result<String, AllocError>
     ensures { IfOk result (λ t. string_bytes t ≡ text_of_replies replies.now) }
 {
-    let mut text = String::with_capacity(heap, USUAL.saturating_mul(replies.len()))?;
+    let mut text = String::with_capacity(heap, USUAL_REPLY_BYTES.saturating_mul(replies.len()))?;
     for reply in replies {
         push_line(&mut text, *reply)?;
     }

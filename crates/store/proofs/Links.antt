@@ -1,4 +1,4 @@
--- The cells of a new store, one link after another. Assumes nothing.
+-- The cells of a new store, one link after another.
 use Rattle.std.proofs.Common.{◌≡◌, ℕ, zero, suc, ◌+◌, ◌-◌, ◌<◌, ◌≤◌, false, ◌≢◌, List, length, sym, ap, ◌∙◌, ap₂, arith, below_more}
 use Rattle.std.proofs.lemmas.List.{ext_get_or}
 use Rattle.bank.specs.Words.{number_of, with_car, with_cdr, with_mark}

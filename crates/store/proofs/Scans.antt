@@ -1,4 +1,4 @@
--- Scans, one after another. Assumes nothing.
+-- Scans, one after another.
 use Rattle.std.proofs.Common.{◌≡◌, ℕ, zero, suc, ◌+◌, ◌-◌, ◌<◌, ◌≤◌, List, [], ◌∷◌, length, refl, ap, sym, ◌∙◌, arith, length-append}
 use Rattle.collector.specs.States.{Heap}
 use Rattle.collector.specs.Turns.{scan, scans, scanned, latest}

@@ -1,4 +1,4 @@
--- Reading the waiting stack after a push and a pop. Assumes nothing.
+-- Reading the waiting stack after a push and a pop.
 use Rattle.std.proofs.Common.{◌≡◌, ℕ, zero, suc, ◌+◌, ◌<◌, ◌≤◌, ltb, ◌≢◌, List, ◌∷◌, length, get_or, set, sym, refl, ap, ◌∙◌, add-one, arith, get_or-set_other, get_or-set_same}
 use Rattle.std.proofs.lemmas.Bool.{lt-ltb, le-ltb, cond-true, cond-false}
 use Rattle.collector.specs.Turns.{pushed}

@@ -1,4 +1,4 @@
--- Sweeps, one after another. Assumes nothing.
+-- Sweeps, one after another.
 use Rattle.std.proofs.Common.{◌≡◌, ℕ, suc, ◌+◌, ◌-◌, ◌<◌, ◌≤◌, min, Bool, true, false, cond, ltb, length, sym, refl, ap, ◌∙◌, ap₂, arith}
 use Rattle.std.proofs.lemmas.Bool.{ltb-true, ltb-false}
 use Rattle.bank.specs.Words.{with_car, with_cdr, with_mark}

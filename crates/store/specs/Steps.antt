@@ -1,9 +1,9 @@
--- The parts of a turn: the share of work that its phase has, whether the phase is over, and the next phase.
-use Rattle.std.specs.Prelude.{Bool, true, false, length, nat_le}
+-- The parts of a turn: the share of work that its phase has, and whether the phase is over.
+use Rattle.std.specs.Prelude.{Bool, length, nat_le}
 use Rattle.collector.specs.declared.phase.Phase.{Phase}
 use Rattle.collector.specs.Lists.{is_empty}
 use Rattle.collector.specs.States.{State}
-use Rattle.collector.specs.Turns.{Ground, ground, scans, sweeps, begun}
+use Rattle.collector.specs.Turns.{Ground, ground, scans, sweeps}
 use Rattle.collector.specs.Calls.{with_heap}
 
 abbrev pub with_phase : {V : Type 0} → Phase → State V → State V
@@ -35,12 +35,3 @@ over_in Phase.Sweep says s = nat_le (length s.heap.cells) s.pool.sweeper
 
 abbrev pub over : {V : Type 0} → Bool → State V → Bool
 over says s = over_in s.phase says s
-
--- The next phase; marking begins with the roots.
-abbrev pub moved_in : {V : Type 0} → Phase → Bool → State V → State V
-moved_in Phase.Idle true s = begun s
-moved_in Phase.Idle false s = s
-moved_in Phase.Mark true s = with_phase Phase.Sweep s
-moved_in Phase.Mark false s = s
-moved_in Phase.Sweep true s = with_phase Phase.Idle s
-moved_in Phase.Sweep false s = s

@@ -26,6 +26,7 @@ impl<B: Bank> Heap<B> {
             return;
         };
         if !cell.mark {
+            // A refusal is passed over here as in the definition; no run meets one.
             let _ = self.bank.set(n, Change::Mark(true));
             self.waiting.push(n as u16);
         }

@@ -1,12 +1,11 @@
 // A store of lists: sixteen registers, ten calls, and what they leave. Each contract is an equation with the definition of the
 // call, for every state. What the start rule says counts in a cons alone.
-ghost use Rattle.std.specs.Prelude.{◌≡◌, ℕ, Bool, if◌then◌else◌, Ok, Err, nat_lt};
+ghost use Rattle.std.specs.Prelude.{◌≡◌, ℕ, Bool};
 ghost use Rattle.bank.specs.Banks.{asked};
 ghost use Rattle.collector.specs.declared.call.Answer.{Answer};
 ghost use Rattle.collector.specs.declared.call.Call.{Call};
-ghost use Rattle.collector.specs.declared.fault.StoreFault.{StoreFault};
 ghost use Rattle.collector.specs.Calls.{call_under};
-ghost use Rattle.collector.specs.Outcomes.{register as register_of};
+ghost use Rattle.collector.specs.Outcomes.{register_asked};
 ghost use Rattle.collector.specs.States.{State, size};
 ghost use Rattle.collector.specs.Runs.{Keeps, RuleAfter, asks};
 ghost use Rattle.collector.specs.Laws.{Grounded};
@@ -119,7 +118,7 @@ pub trait ListStore {
 
     // The word of a register.
     fn register(&self, r: u32) -> Result<Word, StoreFault>
-        ensures { result ≡ (if nat_lt r 16 then Ok (register_of (state self.now).registers r) else Err (StoreFault.NoRegister r)) };
+        ensures { result ≡ register_asked (state self.now).registers r };
 
     // A cell of the bank.
     fn cell(&self, n: u32) -> Result<Cell, BankFault>

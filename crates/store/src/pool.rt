@@ -19,6 +19,7 @@ impl Pool {
         ensures ground { ground_of B.cells bank.new self.new ≡ treat false false (B.limit bank.old) n (ground_of B.cells bank.old self.old) }
         ensures limit { B.limit bank.new ≡ B.limit bank.old }
     {
+        // A refusal is passed over here as in the definition, and so below; no run meets one.
         let _ = bank.set(n, Change::Car(self.head));
         let _ = bank.set(n, Change::Cdr(Word::Reserved));
         self.head = Word::Cell(n);

@@ -1,7 +1,6 @@
-ghost use Rattle.std.specs.Prelude.{◌≡◌, length, replicate, if◌then◌else◌, Ok, Err, nat_lt, slice_set};
+ghost use Rattle.std.specs.Prelude.{◌≡◌, length, replicate, slice_set};
 ghost use Rattle.bank.specs.declared.word.Word.{Word};
-ghost use Rattle.collector.specs.declared.fault.StoreFault.{StoreFault};
-ghost use Rattle.collector.specs.Outcomes.{register};
+ghost use Rattle.collector.specs.Outcomes.{register_asked};
 
 use bank::Word;
 use collector::StoreFault;
@@ -24,7 +23,7 @@ impl Registers {
 
     // The word of a register, or the refusal of a number that is none's.
     pub fn get(&self, r: u32) -> Result<Word, StoreFault>
-        ensures { result ≡ (if nat_lt r 16 then Ok (register self.now.words r) else Err (StoreFault.NoRegister r)) }
+        ensures { result ≡ register_asked self.now.words r }
     {
         self.words
             .get(r as usize)

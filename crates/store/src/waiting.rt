@@ -9,7 +9,7 @@ use std::marker::Model;
 // The most cells that wait at once: as many as a bank has.
 const MOST: usize = MOST_CELLS as usize;
 
-// The numbers of the cells that wait to be scanned, the latest last. A plain array, as the project asks: a store has fixed memory, and no call allocates.
+// The numbers of the cells that wait to be scanned, the latest last. A plain array: a store has fixed memory, and no call allocates.
 #[derive(Drop)]
 pub struct Waiting {
     cells: [u16; 4096],

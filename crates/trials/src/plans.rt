@@ -21,31 +21,6 @@ fn lines_are_read(rt: HostRuntime) -> Result<(), Fail> {
 }
 
 #[test]
-fn faults_have_their_places(rt: HostRuntime) -> Result<(), Fail> {
-    let cases: [(&[u8], u32, u32); 14] = [
-        (b"", 1, 1),
-        (b"store 3 1 1 1", 1, 14),
-        (b"store 3 1 1 1\nrplac", 2, 6),
-        (b"store 03 1 1 1\n", 1, 8),
-        (b"store 100000 1 1 1\n", 1, 12),
-        (b"store 3  1 1 1\n", 1, 9),
-        (b"store 3\t1 1 1\n", 1, 8),
-        (b"store 3 1 1 1 \n", 1, 14),
-        (b"store 3 1 1\n", 1, 12),
-        (b"load 1 2 3\n", 1, 1),
-        (b"stor 3 1 1 1\n", 1, 5),
-        (b"store 3 1 1 1\nstore 3 1 1 1\n", 2, 2),
-        (b"store 3 1 1 1\nclear 1\ncar\n", 3, 4),
-        (b"store 3 1 1 1\n\n", 2, 1),
-    ];
-    for (text, line, column) in cases {
-        let reading = read_plan(rt.alloc(), text)?;
-        assert_eq!(rt; reading.fault, Some(PlanFault::Malformed { line, column }));
-    }
-    Ok(())
-}
-
-#[test]
 fn a_plan_may_be_too_long(rt: HostRuntime) -> Result<(), Fail> {
     let text = [b's'; 32_769];
     let reading = read_plan(rt.alloc(), &text[0..32_768])?;

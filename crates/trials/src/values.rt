@@ -1,6 +1,4 @@
 use atoms::Zone;
-use atoms::aspect::{Aspect, Seconds, Train};
-use atoms::aspects::Aspects;
 use atoms::fault::ZoneFault;
 use atoms::kind::{Kind, same_value};
 use atoms::zones::Zones;
@@ -21,12 +19,4 @@ fn zones_at_the_edge(rt: HostRuntime) -> Result<(), Fail> {
     assert!(rt; brake.covers(149) && !brake.covers(150));
     assert!(rt; !same_value(&Zones, &last, &brake));
     Ok(())
-}
-
-#[test]
-fn aspects_at_the_edge(rt: HostRuntime) {
-    assert_eq!(rt; Aspects.value(511), Some(Aspect::Hold(Seconds::new(255))));
-    assert_eq!(rt; Aspects.value(512), Some(Aspect::Occupied(Train::new(0))));
-    assert_eq!(rt; Aspects.value(1), None);
-    assert_eq!(rt; Aspects.value(768), None);
 }

@@ -1,4 +1,4 @@
--- The table, computed, and the bound as a test. Assumes nothing.
+-- The table, computed, and the bound as a test.
 use Rattle.std.proofs.Common.{refl}
 use Rattle.std.proofs.lemmas.Bool.{and_parts, and_from, leb-true, le-leb}
 use native.Mathlib.Decide.{dec_le}

@@ -1,4 +1,4 @@
--- A pair of numbers that makes no zone. Assumes nothing.
+-- A pair of numbers that makes no zone.
 use Rattle.std.proofs.Common.{◌≡◌, ℕ, List, [], ◌∷◌, None, Ok, Err, Result, sym, ap, ◌∙◌, subst}
 use Rattle.atoms.specs.declared.fault.ZoneFault.{ZoneFault}
 use Rattle.atoms.specs.Refusals.{told}

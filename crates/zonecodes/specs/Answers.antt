@@ -1,4 +1,4 @@
--- What a line is answered with. Assumes nothing.
+-- What a line is answered with.
 use Rattle.std.specs.Prelude.{◌≡◌, ℕ, List, [], ◌∷◌, ◌++◌, Some, None, Ok, Err, codes, Result}
 use Rattle.std.specs.Option.{option_map}
 use Rattle.atoms.specs.Refusals.{told, spoken}

@@ -1,4 +1,4 @@
--- What a line holds. Assumes nothing.
+-- What a line holds.
 use Rattle.std.specs.Prelude.{◌≡◌, ℕ, ◌^◌, ◌<◌, List, ◌∷◌, ◌++◌, length, Ok, Err, codes, Result, ◌≢◌, slice_index}
 use Rattle.std.specs.Str.Parse.{IsNumeral, digits_value, without_leading_plus}
 use Rattle.zonecodes.specs.declared.line.LineFault.{LineFault}

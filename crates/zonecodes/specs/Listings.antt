@@ -1,4 +1,4 @@
--- What is printed of a zone. Assumes nothing.
+-- What is printed of a zone.
 use Rattle.std.specs.Prelude.{ℕ, ◌+◌, ◌-◌, List, ◌++◌, codes, decimal}
 use Rattle.atoms.specs.Zones.{zone_code, pair_text}
 use Rattle.atoms.specs.declared.zone.Zone.{Zone}

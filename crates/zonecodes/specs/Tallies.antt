@@ -1,4 +1,4 @@
--- How many lines were answered in which way. Assumes nothing.
+-- How many lines were answered in which way.
 use Rattle.std.specs.Prelude.{ℕ, ◌+◌, ◌-◌, ◌^◌, min, List, ◌++◌, Ok, Err, codes, decimal, Result}
 use Rattle.zonecodes.specs.declared.answer.Fault.{Fault}
 use Rattle.zonecodes.specs.declared.answer.Fault.TheVariants.{Line, Refused}
