@@ -1,9 +1,10 @@
 #!/usr/bin/env python3
 """Prints the table of planted bugs: each must-fail edit, what it turns, and the place where the prover refuses it.
 
-    rt must-fail --anew >target/planted.log 2>&1; python3 tools/planted.py target/planted.log
+    rt ci --anew >/tmp/gate.log 2>&1; python3 tools/planted.py /tmp/gate.log
 
-The log is what `rt must-fail` printed. An edit that it does not name as refused ends the tool with status 1."""
+The log is what `rt ci --anew` or `rt must-fail --anew` printed. An edit that it does not name as refused ends the tool
+with status 1."""
 import re
 import sys
 from pathlib import Path
