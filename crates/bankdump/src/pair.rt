@@ -1,5 +1,5 @@
-ghost use Rattle.std.specs.Prelude.{◌≡◌, ◌+◌, ◌*◌, ◌++◌, IfOk, Some, codes, decimal};
-ghost use Rattle.bankdump.specs.Pairs.{ReadsAs};
+ghost use Rattle.std.specs.Prelude.{◌≡◌, ◌+◌, ◌*◌, ◌++◌, MatchOption, MatchResult, Some, codes, decimal};
+ghost use Rattle.bankdump.specs.Pairs.{Writes, WritesNone, NoPlus, Parted, ReadsAs, ReadsNone};
 
 use std::fmt;
 use std::num::ParseIntError;
@@ -23,16 +23,30 @@ impl From<ParseIntError> for NotAPair {
     }
 }
 
+// The number that a text writes.
+fn number(text: &str) -> Result<u16, NotAPair>
+    ensures { MatchResult result (Writes text.now) (λ _. WritesNone text.now) }
+{
+    Ok(text.parse()?)
+}
+
+// What stands before a text's first plus sign and what stands after it.
+fn halves(text: &str) -> Option<(&str, &str)>
+    ensures { MatchOption result (NoPlus text.now) (λ p. Parted text.now p.0.now p.1.now) }
+{
+    text.split_once('+')
+}
+
 impl FromStr for ZonePair {
     type Err = NotAPair;
 
-    ghost from_str_gives = { λ text r. IfOk r (ReadsAs text) };
+    ghost from_str_gives = { λ text r. MatchResult r (ReadsAs text) (λ _. ReadsNone text) };
 
     fn from_str(s: &str) -> Result<ZonePair, NotAPair> {
-        let (offset, length) = s.split_once('+').ok_or(NotAPair)?;
+        let (offset, length) = halves(s).ok_or(NotAPair)?;
         Ok(ZonePair {
-            offset: offset.parse()?,
-            length: length.parse()?,
+            offset: number(offset)?,
+            length: number(length)?,
         })
     }
 }
