@@ -2,8 +2,6 @@
 // Each line of the input is a chain of zones, and a zone is its offset, a plus sign and its length.
 #![tactic(auto)]
 
-mod chain;
-mod pair;
 mod script;
 
 use bank::Cell;

@@ -1,6 +1,5 @@
-use super::chain;
-use super::pair::ZonePair;
 use bank::{Bank, Cell};
+use chains::{ZonePair, read_chain, write_chain};
 use layers::{Hold, Join, Window};
 use memory::{PackedBank, RecordBank};
 use std::alloc::{AllocError, Global};
@@ -17,7 +16,7 @@ pub fn run(rt: &HostRuntime, packed: &mut [u64], records: &mut [Cell]) -> anyhow
             println!(rt; "not a chain: {line}")?;
             continue;
         };
-        match chain::write_chain(&mut bank, next, codes.as_slice()) {
+        match write_chain(&mut bank, next, codes.as_slice()) {
             Ok(end) => {
                 starts.push(next)?;
                 next = end;
@@ -37,7 +36,7 @@ pub fn run(rt: &HostRuntime, packed: &mut [u64], records: &mut [Cell]) -> anyhow
 
 // Prints the chain that begins in cell `start`.
 fn print_chain<B: Bank>(rt: &HostRuntime, bank: &B, start: u32) -> anyhow::Result<()> {
-    let codes = chain::read_chain(rt.alloc(), bank, start)?;
+    let codes = read_chain(rt.alloc(), bank, start)?;
     print!(rt; "chain at {start}:")?;
     for code in codes.iter() {
         let zone = ZonePair::from(*code);

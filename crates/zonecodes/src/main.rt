@@ -2,16 +2,9 @@
 // the code reads back as, or how it is refused; then the totals.
 #![tactic(auto)]
 
-mod answer;
-mod line;
-mod listing;
-mod tally;
-
-use answer::answer;
-use line::LineFault;
 use std::io::{BufRead, BufReader};
 use std::{io, iter};
-use tally::Tally;
+use zonesheet::{LineFault, Tally, answer};
 
 fn main(rt: HostRuntime) -> anyhow::Result<()> {
     run(&rt)

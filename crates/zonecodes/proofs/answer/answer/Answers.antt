@@ -1,5 +1,0 @@
-use Rattle.std.proofs.Common.{rules}
-use Rattle.zonecodes.proofs.answer.answer.Goals as goal
-
-pub returns : goal.returns
-returns c = ((c.in_ok-offset.offset, c.in_ok-offset.length), c.in_ok-offset.ensures, search rules)
