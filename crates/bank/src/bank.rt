@@ -24,6 +24,7 @@ pub trait Bank {
         ensures { result ≡ asked (cells self.now) n };
 
     // The cell n that the word may be put into, or the refusal that `set` gives.
+    #[inline(always)]
     fn writable(&self, n: u32, word: Word) -> Result<Cell, BankFault>
         ensures { result ≡ writable (limit self.now) (cells self.now) n word }
     {
@@ -39,6 +40,7 @@ pub trait Bank {
         ensures fixed { limit self.new ≡ limit self.old };
 
     // Sets the three fields of cell n, but for a word above the limit.
+    #[inline(always)]
     fn write_cell(&mut self, n: u32, cell: Cell)
         ensures after { cells self.new ≡ cell_put (limit self.old) (cells self.old) n cell }
         ensures fixed { limit self.new ≡ limit self.old }

@@ -30,6 +30,7 @@ pub enum Change {
 }
 
 impl Word {
+    #[inline(always)]
     pub fn number(&self) -> u32
         ensures { result ≡ number_of self.now }
     {
@@ -40,6 +41,7 @@ impl Word {
     }
 
     // Refuses a word whose number lies above the limit.
+    #[inline(always)]
     pub fn within(&self, limit: u32) -> Result<(), BankFault>
         ensures { result ≡ taken limit self.now (Ok tt) }
     {
@@ -53,6 +55,7 @@ impl Word {
 
 impl Change {
     // The word that comes into the cell; nil, which always fits, where none does.
+    #[inline(always)]
     pub fn word(self) -> Word
         ensures { result ≡ word_in self }
     {

@@ -1,35 +1,54 @@
 -- Under the floor rule the calls alone say how a run goes.
-use Rattle.std.proofs.Common.{◌≡◌, ℕ, [], ◌∷◌, List, sym, refl, ap, ◌∙◌, subst, rules}
-use Rattle.collector.specs.Laws.{RuledRun, Lawful}
-use Rattle.collector.specs.Outcomes.{Outcome}
-use Rattle.collector.specs.Runs.{Event, Ruled, RuleAfter, asks, calls_of, next, outcomes, under_floor}
+use Rattle.std.proofs.Common.{◌≡◌, ℕ, List, [], ◌∷◌, length, sym, refl, ap, ◌∙◌}
+use Rattle.std.proofs.lemmas.Bool.{le-leb}
+use Rattle.bank.specs.Banks.{Sound}
+use Rattle.bank.specs.declared.word.Cell.{Cell}
+use Rattle.collector.specs.Laws.{Grounded, Lawful}
+use Rattle.collector.specs.Runs.{Event, Collection, next, onward, beginning, Admissible, RuleAfter, under_floor}
 use Rattle.collector.specs.States.{Fixed, State, new}
 use Rattle.collector.specs.declared.call.Call.{Call}
-use Rattle.pacing.specs.Floors.{floor_of, floor_says, floor_becomes}
+use Rattle.collector.proofs.Invariant.{Inv}
+use Rattle.collector.proofs.Laws.{every_run_lawful}
+use Rattle.collector.proofs.Moves.{next-fixed}
+use Rattle.collector.proofs.Start.{new-keeps}
+use Rattle.collector.proofs.Steps.{step_keeps}
+use Rattle.pacing.specs.Floors.{floor_becomes}
 use Rattle.pacing.specs.declared.floor.FloorRule.{FloorRule}
-use Rattle.std.specs.Prelude.{Bool, true, false}
+use Rattle.plan.specs.declared.line.Line.{Line}
+use Rattle.replies.specs.declared.opening.Opening.{Opening}
+use Rattle.replies.specs.Requests.{calls_of_lines}
+use Rattle.replies.specs.Sessions.{plan_fixed, events_of}
+use Rattle.std.specs.Prelude.{Bool, true, false, nat_le}
 
 -- The floor rule stays, asked or not.
-stays : (asked : Bool) (r : FloorRule) (count : ℕ) (then : FloorRule) → RuleAfter floor_becomes asked r count then → then ≡ r
+pub stays : (asked : Bool) (r : FloorRule) (count : ℕ) (then : FloorRule) → RuleAfter floor_becomes asked r count then → then ≡ r
 stays true r count then h = h
 stays false r count then h = h
 
-pub ruled-under : {V : Type 0} (s : State V) (r : FloorRule) (es : List (Event V)) (last : FloorRule)
-    → Ruled floor_says floor_becomes s r es last → es ≡ under_floor (floor_of r) s (calls_of es)
-ruled-under s r [] last ruled = refl
-ruled-under {V} s r (e ∷ es) last ruled =
-    let same : ruled.0 ≡ r = stays (asks s e.call) r s.pool.count ruled.0 ruled.2 in
-    let rest : es ≡ under_floor (floor_of r) (next s e) (calls_of es) =
-    ruled-under (next s e) r es last (subst (λ (p : FloorRule). Ruled floor_says floor_becomes (next s e) p es last) same ruled.3) in
-    search (rules, ruled.1, rest)
-
--- A run under the floor rule, as an equation.
-pub run_under_floor : {V : Type 0} (fixed : Fixed V) (size : ℕ) (r : FloorRule) (cs : List (Call V)) (os : List (Outcome V)) (last : State V) (after : FloorRule)
-    → RuledRun floor_says floor_becomes fixed size r cs os last after
-    → (os ≡ outcomes (new fixed size) (under_floor (floor_of r) (new fixed size) cs)) × Lawful fixed size (under_floor (floor_of r) (new fixed size) cs)
-run_under_floor {V} fixed size r cs os last after h =
-    let s : State V = new fixed size in
-    let e : h.run.events ≡ under_floor (floor_of r) s cs = ruled-under s r h.run.events after h.ruled ∙ ap (λ (ks : List (Call V)). under_floor (floor_of r) s ks) h.run.made in (
-      sym h.run.answered ∙ ap (λ (es : List (Event V)). outcomes s es) e,
-      subst (λ (es : List (Event V)). Lawful fixed size es) e h.run.lawful,
+-- The floor rule says yes at its floor, and no call changes the floor.
+admissible-under : {V : Type 0} (floor : ℕ) (c : Collection V) (s : State V) → Inv c s → s.fixed.floor ≡ floor → (cs : List (Call V)) → Admissible s (under_floor floor s cs)
+admissible-under floor c s i e [] = tt
+admissible-under {V} floor c s i e (k ∷ ks) =
+    let v : Event V = record { call = k; says = nat_le s.pool.count floor } in (
+      λ idle low. le-leb s.pool.count floor (rw (sym e) low),
+      admissible-under floor (onward s v c) (next s v) (step_keeps i v) (ap (λ (f : Fixed V). f.floor) (next-fixed i v) ∙ e) ks,
     )
+
+-- The laws hold of a run under the floor rule.
+lawful_under_floor : {V : Type 0} (fixed : Fixed V) (size : ℕ) → Grounded fixed size → (cs : List (Call V))
+    → Lawful fixed size (under_floor fixed.floor (new fixed size) cs)
+lawful_under_floor fixed size ground cs =
+    every_run_lawful fixed size ground (under_floor fixed.floor (new fixed size) cs)
+    (admissible-under fixed.floor (beginning (new fixed size)) (new fixed size) (new-keeps fixed size ground) refl cs)
+
+-- The same of a plan's run over a bank that keeps its law.
+pub plan_lawful : (limit : ℕ) (cells : List Cell) → Sound limit cells → (opening : Opening) (ls : List Line)
+    → Lawful (plan_fixed limit opening) (length cells) (events_of limit (length cells) opening ls)
+plan_lawful limit cells sound opening ls =
+    let ground : Grounded (plan_fixed limit opening) (length cells) = record {
+      few = sound.few;
+      wide = sound.wide;
+      scans_some = opening.effort.fits.0.0;
+      sweeps_some = opening.effort.fits.1.0;
+    } in
+    lawful_under_floor (plan_fixed limit opening) (length cells) ground (calls_of_lines ls)

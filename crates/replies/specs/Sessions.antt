@@ -3,7 +3,7 @@ use Rattle.std.specs.Prelude.{◌≡◌, ℕ, min, List, [], ◌∷◌, ◌++◌
 use Rattle.atoms.specs.declared.zone.Zone.{Zone}
 use Rattle.atoms.specs.Zones.{zone_code, zone_of}
 use Rattle.collector.specs.Laws.{Lawful}
-use Rattle.collector.specs.Runs.{Event, outcomes, under_floor}
+use Rattle.collector.specs.Runs.{Event, under_floor}
 use Rattle.collector.specs.States.{Fixed, new}
 use Rattle.memory.specs.Packing.{packed_top}
 use Rattle.pacing.specs.declared.fault.EffortFault.{EffortFault}
@@ -16,7 +16,8 @@ use Rattle.replies.specs.declared.opening.Opening.{Opening}
 use Rattle.replies.specs.declared.reply.Reply.{Reply}
 use Rattle.replies.specs.Openings.{opening_of}
 use Rattle.replies.specs.Replies.{text_of_replies}
-use Rattle.replies.specs.Requests.{calls_of_lines, replies_of_lines}
+use Rattle.replies.specs.Requests.{calls_of_lines}
+use Rattle.replies.specs.Serving.{replies_from}
 
 -- What is fixed in a plan's store over a bank of this limit: zones for atoms, the floor rule, and the effort.
 abbrev pub plan_fixed : ℕ → Opening → Fixed Zone
@@ -36,9 +37,13 @@ later (l ∷ ls) = ls
 abbrev pub events_of : ℕ → ℕ → Opening → List Line → List (Event Zone)
 events_of limit size opening ls = under_floor opening.floor (new (plan_fixed limit opening) size) (calls_of_lines ls)
 
--- The replies: `ok` to the store line, and then to each later line by the outcome of its call in that run, or by the line's own refusal; and the laws of runs hold of it.
+-- The replies: `ok` to the store line, and then to each later line by the outcome of its call in that run, or by the line's own refusal.
+abbrev pub replies_in : ℕ → ℕ → Opening → List Line → List Reply
+replies_in limit size opening ls = Reply.Done ∷ replies_from opening.floor (new (plan_fixed limit opening) size) ls
+
+-- They are these, and the laws of runs hold of the run.
 pub record Served (limit size : ℕ) (opening : Opening) (ls : List Line) (rs : List Reply) : Type 0 where
-  pub replied : rs ≡ Reply.Done ∷ replies_of_lines ls (outcomes (new (plan_fixed limit opening) size) (events_of limit size opening ls))
+  pub replied : rs ≡ replies_in limit size opening ls
   pub lawful : Lawful (plan_fixed limit opening) size (events_of limit size opening ls)
 
 -- The replies to a plan's lines, by how it opens: a store of that many packed cells, 4,096 at most.
@@ -49,6 +54,12 @@ RepliedBy (Err fault) ls rs = rs ≡ Reply.Refused (LineFault.Effort fault) ∷ 
 
 abbrev pub Replied : List Line → List Reply → Type 0
 Replied ls rs = RepliedBy (opening_of ls) (later ls) rs
+
+-- A text, with the replies to a plan's lines added to what was there before.
+pub record Added (opening : Result (Option Opening) EffortFault) (ls : List Line) (before text : List ℕ) : Type 0 where
+  pub replies : List Reply
+  pub replied : RepliedBy opening ls replies
+  pub printed : text ≡ before ++ text_of_replies replies
 
 -- A fault's line is printed unless the opening was refused, which ends the plan.
 abbrev pub fault_line : PlanFault → List ℕ

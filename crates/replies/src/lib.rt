@@ -5,11 +5,10 @@ mod call;
 mod fault;
 mod opening;
 mod reply;
+mod serving;
 mod session;
-mod text;
 
-pub use call::{call_of, calls_in, push_replies};
+pub use call::call_of;
 pub use fault::LineFault;
 pub use reply::Reply;
-pub use session::{answer_plan, replies_to};
-pub use text::replies_text;
+pub use session::answer_plan;

@@ -1,11 +1,12 @@
 // A plan, answered.
-ghost use Rattle.std.specs.Prelude.{◌≡◌, length, IfOk, Ok, Some, string_bytes};
-ghost use Rattle.replies.specs.Sessions.{Served, RepliedBy, Replied, Answered, text_of_fault, later};
+ghost use Rattle.std.specs.Prelude.{◌≡◌, ◌++◌, length, IfOk, OnOk, Ok, Some, string_bytes};
+ghost use Rattle.collector.specs.Laws.{Lawful};
+ghost use Rattle.replies.specs.Replies.{text_of_replies};
+ghost use Rattle.replies.specs.Sessions.{plan_fixed, events_of, replies_in, Added, Answered, text_of_fault, later};
 
-use super::call::{calls_in, push_replies};
 use super::opening::{Opening, open_plan};
 use super::reply::Reply;
-use super::text::replies_text;
+use super::serving::{push_line, serve_lines};
 use atoms::zones::Zones;
 use bank::{Bank, MOST_CELLS};
 use memory::PackedBank;
@@ -13,55 +14,56 @@ use pacing::fault::EffortFault;
 use pacing::floor::FloorRule;
 use plan::{Line, PlanFault, read_plan};
 use std::alloc::{AllocError, Global};
-use store::run;
+use std::fmt::Write;
+use store::Store;
 
-// The replies of a new store over a bank. Generic in the bank, since a store whose bank holds a loan cannot stand in a result at
-// its own type.
-#[tactic(auto, using(crate::proofs::Floors::run_under_floor))]
+// Most replies have no more bytes.
+const USUAL_REPLY_BYTES: usize = 8;
+
+// Writes the replies of a new store over a bank. Generic in the bank, since a store whose bank holds a loan cannot stand in a
+// result at its own type.
 fn serve_on<B: Bank + Drop>(
-    heap: Global,
+    text: &mut String,
     bank: B,
     opening: Opening,
     lines: &[Line],
-) -> Result<Vec<Reply>, AllocError>
-    ensures { IfOk result (λ v. Served (B.limit bank) (length (B.cells bank)) opening lines.now v.items) }
+) -> Result<(), AllocError>
+    ensures text { OnOk result (string_bytes text.new ≡ string_bytes text.old ++ text_of_replies (replies_in (B.limit bank) (length (B.cells bank)) opening lines.now)) }
+    ensures lawful { Lawful (plan_fixed (B.limit bank) opening) (length (B.cells bank)) (events_of (B.limit bank) (length (B.cells bank)) opening lines.now) }
 {
-    let calls = calls_in(heap, lines)?;
-    let (outcomes, _store) = run(
-        heap,
-        bank,
-        Zones,
-        FloorRule::new(opening.floor),
-        opening.effort,
-        calls.as_slice(),
-    )?;
-    let mut replies = Vec::with_capacity(heap, lines.len() + 1)?;
-    replies.push(Reply::Done)?;
-    push_replies(&mut replies, lines, outcomes.as_slice())?;
-    Ok(replies)
+    let rule = FloorRule::new(opening.floor);
+    let mut store = Store::new(bank, Zones, rule, opening.effort);
+    push_line(text, Reply::Done)?;
+    serve_lines(text, &mut store, lines)
 }
 
 // The same over packed cells in memory of its own.
-fn serve(heap: Global, opening: Opening, lines: &[Line]) -> Result<Vec<Reply>, AllocError>
-    ensures { IfOk result (λ v. RepliedBy (Ok (Some opening)) lines.now v.items) }
+fn serve(
+    heap: Global,
+    text: &mut String,
+    opening: Opening,
+    lines: &[Line],
+) -> Result<(), AllocError>
+    ensures { OnOk result (Added (Ok (Some opening)) lines.now (string_bytes text.old) (string_bytes text.new)) }
 {
     let size = opening.cells.min(MOST_CELLS) as usize;
     let mut memory = vec![in heap; 0u64; size]?;
-    serve_on(heap, PackedBank::new(memory.as_mut_slice()), opening, lines)
+    serve_on(text, PackedBank::new(memory.as_mut_slice()), opening, lines)
 }
 
-// The replies to a plan's lines.
-pub fn replies_to(heap: Global, lines: &[Line]) -> Result<Vec<Reply>, AllocError>
-    ensures { IfOk result (λ v. Replied lines.now v.items) }
+// Writes the replies to a plan's lines, of which these are the later ones.
+fn push_replies(
+    heap: Global,
+    text: &mut String,
+    opening: Result<Option<Opening>, EffortFault>,
+    lines: &[Line],
+) -> Result<(), AllocError>
+    ensures { OnOk result (Added opening lines.now (string_bytes text.old) (string_bytes text.new)) }
 {
-    match open_plan(lines) {
-        Ok(Some(opening)) => serve(heap, opening, after_first(lines)),
-        Ok(None) => Ok(Vec::new(heap)),
-        Err(fault) => {
-            let mut replies = Vec::new(heap);
-            replies.push(Reply::Refused(fault.into()))?;
-            Ok(replies)
-        }
+    match opening {
+        Ok(Some(opening)) => serve(heap, text, opening, lines),
+        Ok(None) => Ok(()),
+        Err(fault) => push_line(text, Reply::Refused(fault.into())),
     }
 }
 
@@ -75,27 +77,28 @@ fn after_first(lines: &[Line]) -> &[Line]
 }
 
 // What is printed of the fault that ends a plan, if it comes to that.
-fn fault_text(
-    heap: Global,
+fn push_fault(
+    text: &mut String,
     opening: Result<Option<Opening>, EffortFault>,
     fault: Option<PlanFault>,
-) -> Result<String, AllocError>
-    ensures { IfOk result (λ t. string_bytes t ≡ text_of_fault opening fault) }
+) -> Result<(), AllocError>
+    ensures { OnOk result (string_bytes text.new ≡ string_bytes text.old ++ text_of_fault opening fault) }
 {
     match (opening, fault) {
-        (Ok(_), Some(fault)) => format!(in heap; "{fault}\n"),
-        _ => Ok(String::new(heap)),
+        (Ok(_), Some(fault)) => write!(text, "{fault}\n").map_err(|_| AllocError),
+        _ => Ok(()),
     }
 }
 
-// The text that is printed for a plan. Its calls are made through `run`, so what is promised of runs is promised of them.
+// The text that is printed for a plan: its calls are made of a store of its own, and the laws of runs hold of them.
 pub fn answer_plan(heap: Global, bytes: &[u8]) -> Result<String, AllocError>
     ensures { IfOk result (λ t. Answered bytes.now (string_bytes t)) }
 {
     let reading = read_plan(heap, bytes)?;
-    let replies = replies_to(heap, reading.lines.as_slice())?;
-    let mut text = replies_text(heap, replies.as_slice())?;
-    let end = fault_text(heap, open_plan(reading.lines.as_slice()), reading.fault)?;
-    text.push_str(end.as_str())?;
+    let lines = reading.lines.as_slice();
+    let opening = open_plan(lines);
+    let mut text = String::with_capacity(heap, USUAL_REPLY_BYTES.saturating_mul(lines.len()))?;
+    push_replies(heap, &mut text, opening, after_first(lines))?;
+    push_fault(&mut text, opening, reading.fault)?;
     Ok(text)
 }

@@ -1,12 +1,16 @@
 -- Sweeps, one after another.
-use Rattle.std.proofs.Common.{◌≡◌, ℕ, suc, ◌+◌, ◌-◌, ◌<◌, ◌≤◌, min, Bool, true, false, cond, ltb, length, sym, refl, ap, ◌∙◌, ap₂, arith}
-use Rattle.std.proofs.lemmas.Bool.{ltb-true, ltb-false}
-use Rattle.bank.specs.Words.{with_car, with_cdr, with_mark}
-use Rattle.bank.specs.Banks.{word_put}
+use Rattle.std.proofs.Common.{◌≡◌, ℕ, zero, suc, ◌+◌, ◌-◌, ◌<◌, ◌≤◌, min, Bool, true, false, cond, ltb, List, length, get_or, Ok, Err, is_ok, sym, refl, ap, ap₂, ◌∙◌, arith}
+use Rattle.std.proofs.lemmas.Bool.{ltb-true, ltb-false, both_ways}
+use Rattle.std.proofs.lemmas.List.{get_or_default}
+use Rattle.bank.specs.Words.{blank, with_car, with_cdr, with_mark}
+use Rattle.bank.specs.Banks.{asked, word_put}
+use Rattle.bank.specs.declared.fault.BankFault.{BankFault}
 use Rattle.bank.specs.declared.word.Word.{Word}
+use Rattle.bank.specs.declared.word.Cell.{Cell}
 use Rattle.bank.proofs.Laws.{length-changed, length-put}
-use Rattle.collector.specs.States.{at}
-use Rattle.collector.specs.Turns.{Ground, treat, is_reserved, sweep, sweep_if, sweeps}
+use Rattle.collector.specs.States.{at, dead}
+use Rattle.collector.specs.Turns.{Ground, treat, is_reserved, advance, sweep, sweep_if, sweeps}
+use Rattle.store.specs.Passing.{is_passed, free_run}
 use Rattle.store.proofs.Scans.{left}
 
 treat-sweeper : (m f : Bool) (limit n : ℕ) (g : Ground) → (treat m f limit n g).pool.sweeper ≡ g.pool.sweeper
@@ -20,31 +24,146 @@ treat-length false true limit n g = refl
 treat-length false false limit n g =
     length-put with_cdr limit (word_put with_car limit g.cells n g.pool.head) n Word.Reserved ∙ length-put with_car limit g.cells n g.pool.head
 
--- How many sweeps are left, by whether this one reaches a cell.
-left-if : (b : Bool) (limit j : ℕ) (g : Ground) → ltb g.pool.sweeper (length g.cells) ≡ b
-    → cond b 1 0 + min j (length (sweep_if b limit g).cells - (sweep_if b limit g).pool.sweeper) ≡ min (suc j) (length g.cells - g.pool.sweeper)
-left-if true limit j g e =
+-- The sweeper further on.
+abbrev pub forward : ℕ → Ground → Ground
+forward r g = record {
+  cells = g.cells;
+  pool = record { head = g.pool.head; count = g.pool.count; sweeper = g.pool.sweeper + r };
+}
+
+forward-none : (g : Ground) → forward 0 g ≡ g
+forward-none g =
+    let e : g.pool.sweeper + 0 ≡ g.pool.sweeper = omega arith in
+    ap (λ (n : ℕ). record { cells = g.cells; pool = record { head = g.pool.head; count = g.pool.count; sweeper = n } }) e
+
+forward-more : (r : ℕ) (g : Ground) → forward r (advance g) ≡ forward (suc r) g
+forward-more r g =
+    let e : g.pool.sweeper + 1 + r ≡ g.pool.sweeper + suc r = omega arith in
+    ap (λ (n : ℕ). record { cells = g.cells; pool = record { head = g.pool.head; count = g.pool.count; sweeper = n } }) e
+
+-- A free cell is passed.
+passed-by : (m f : Bool) (limit : ℕ) (g : Ground) → cond m false f ≡ true → advance (treat m f limit g.pool.sweeper g) ≡ advance g
+passed-by true f limit g e = absurd (both_ways false refl e)
+passed-by false true limit g e = refl
+passed-by false false limit g e = absurd (both_ways false refl e)
+
+run-none : (limit m t : ℕ) (g : Ground) → t ≡ 0 + m → sweeps limit t g ≡ sweeps limit m (forward 0 g)
+run-none limit m t g all =
+    let same : t ≡ m = omega arith in
+    ap (λ (j : ℕ). sweeps limit j g) same ∙ ap (sweeps limit m) (sym (forward-none g))
+
+-- A run of free cells is passed in one step.
+run-if : (b p : Bool) (limit k m t : ℕ) (g : Ground) → ltb g.pool.sweeper (length g.cells) ≡ b → is_passed (at g.cells g.pool.sweeper) ≡ p
+    → ((h : Ground) (u : ℕ) → u ≡ free_run h.cells h.pool.sweeper k + m → sweeps limit u h ≡ sweeps limit m (forward (free_run h.cells h.pool.sweeper k) h))
+    → t ≡ cond b (cond p (suc (free_run g.cells (g.pool.sweeper + 1) k)) 0) 0 + m
+    → sweeps limit t g ≡ sweeps limit m (forward (cond b (cond p (suc (free_run g.cells (g.pool.sweeper + 1) k)) 0) 0) g)
+run-if false p limit k m t g e f rest all = run-none limit m t g all
+run-if true false limit k m t g e f rest all = run-none limit m t g all
+run-if true true limit k m t g e f rest all =
+    let c : Cell = at g.cells g.pool.sweeper in
+    let r : ℕ = free_run g.cells (g.pool.sweeper + 1) k in
+    let one : sweep limit g ≡ advance g = ap (λ (b : Bool). sweep_if b limit g) e ∙ passed-by c.mark (is_reserved c.cdr) limit g f in
+    let more : t ≡ suc (r + m) = omega arith in
+    ap (λ (j : ℕ). sweeps limit j g) more ∙ ap (sweeps limit (r + m)) one ∙ rest (advance g) (r + m) refl ∙ ap (sweeps limit m) (forward-more r g)
+
+run-sweeps : (limit k m t : ℕ) (g : Ground) → t ≡ free_run g.cells g.pool.sweeper k + m
+    → sweeps limit t g ≡ sweeps limit m (forward (free_run g.cells g.pool.sweeper k) g)
+run-sweeps limit zero m t g all = run-none limit m t g all
+run-sweeps limit (suc k) m t g all =
+    run-if (ltb g.pool.sweeper (length g.cells)) (is_passed (at g.cells g.pool.sweeper)) limit k m t g refl refl (λ h u. run-sweeps limit k m u h) all
+
+run-few-if : (b p : Bool) (r k : ℕ) → r ≤ k → cond b (cond p (suc r) 0) 0 ≤ suc k
+run-few-if false p r k l = omega arith
+run-few-if true false r k l = omega arith
+run-few-if true true r k l = omega arith
+
+pub run-few : (cells : List Cell) (n k : ℕ) → free_run cells n k ≤ k
+run-few cells n zero = omega arith
+run-few cells n (suc k) =
+    run-few-if (ltb n (length cells)) (is_passed (at cells n)) (free_run cells (n + 1) k) k (run-few cells (n + 1) k)
+
+passes-if : (b : Bool) (cells : List Cell) (n k : ℕ) (c : Cell) → ltb n (length cells) ≡ b
+    → cond b (Ok (get_or cells n blank)) (Err (BankFault.NoSuchCell n)) ≡ Ok c → is_passed c ≡ true
+    → cond b (cond (is_passed (at cells n)) (suc (free_run cells (n + 1) k)) 0) 0 ≡ suc (free_run cells (n + 1) k)
+passes-if true cells n k c e there passed =
+    let same : at cells n ≡ get_or cells n blank = get_or_default cells n dead blank (ltb-true n (length cells) e) in
+    let read : get_or cells n blank ≡ c = search there in
+    let here : is_passed (at cells n) ≡ true = ap is_passed (same ∙ read) ∙ passed in
+    ap (λ (p : Bool). cond p (suc (free_run cells (n + 1) k)) 0) here
+passes-if false cells n k c e there passed = absurd (both_ways false refl (ap is_ok there))
+
+passes-on : (cells : List Cell) (n k : ℕ) (c : Cell) → asked cells n ≡ Ok c → is_passed c ≡ true
+    → free_run cells n (suc k) ≡ suc (free_run cells (n + 1) k)
+passes-on cells n k c there passed = passes-if (ltb n (length cells)) cells n k c refl there passed
+
+-- One more cell of a run, and the cell that ends it.
+pub run-more : (cells : List Cell) (n next run most : ℕ) (c : Cell) → asked cells next ≡ Ok c → is_passed c ≡ true → run < most → next ≡ n + run
+    → run + free_run cells next (most - run) ≡ free_run cells n most
+    → (next + 1 ≡ n + (run + 1)) × (run + 1 + free_run cells (next + 1) (most - (run + 1)) ≡ free_run cells n most)
+run-more cells n next run most c there passed more place rest =
+    let step : free_run cells next (most - run) ≡ suc (free_run cells (next + 1) (most - (run + 1))) =
+    ap (free_run cells next) (left most run more) ∙ passes-on cells next (most - (run + 1)) c there passed in (
+      omega arith,
+      omega arith,
+    )
+
+-- A sweep past the last cell changes nothing.
+past : (limit k : ℕ) (g : Ground) → ltb g.pool.sweeper (length g.cells) ≡ false → sweeps limit k g ≡ g
+past limit zero g e = refl
+past limit (suc k) g e = ap (sweeps limit k) (ap (λ (b : Bool). sweep_if b limit g) e) ∙ past limit k g e
+
+sweep-left : (limit : ℕ) (g : Ground) → length (sweep_if true limit g).cells - (sweep_if true limit g).pool.sweeper ≡ length g.cells - (g.pool.sweeper + 1)
+sweep-left limit g =
     let m : Bool = (at g.cells g.pool.sweeper).mark in
     let f : Bool = is_reserved (at g.cells g.pool.sweeper).cdr in
-    let b = ltb-true g.pool.sweeper (length g.cells) e in
     let place = treat-sweeper m f limit g.pool.sweeper g in
     let len = treat-length m f limit g.pool.sweeper g in
     omega arith
-left-if false limit j g e = let b = ltb-false g.pool.sweeper (length g.cells) e in omega arith
 
--- One of the sweeps is made.
-pub sweeps-more : (limit limit' : ℕ) (g h : Ground) (k i : ℕ) → i < k → limit' ≡ limit → h ≡ sweep limit g → sweeps limit' (k - (i + 1)) h ≡ sweeps limit (k - i) g
-sweeps-more limit limit' g h k i l same e =
-    ap₂ (λ (n : ℕ) (x : Ground). sweeps n (k - (i + 1)) x) same e ∙ sym (ap (λ (j : ℕ). sweeps limit j g) (left k i l))
+left-any-if : (b : Bool) (limit : ℕ) (g : Ground) → length g.cells - (g.pool.sweeper + 1) ≤ length (sweep_if b limit g).cells - (sweep_if b limit g).pool.sweeper
+left-any-if true limit g = let e = sweep-left limit g in omega arith
+left-any-if false limit g = omega arith
 
-pub swept-more : (limit : ℕ) (g h : Ground) (k i p r : ℕ) → i < k → h ≡ sweep limit g → r ≡ cond (ltb g.pool.sweeper (length g.cells)) 1 0
-    → p + r + min (k - (i + 1)) (length h.cells - h.pool.sweeper) ≡ p + min (k - i) (length g.cells - g.pool.sweeper)
-swept-more limit g h k i p r l e q =
-    let rest = left-if (ltb g.pool.sweeper (length g.cells)) limit (k - (i + 1)) g refl in
-    let len : length h.cells ≡ length (sweep limit g).cells = ap (λ (x : Ground). length x.cells) e in
-    let place : h.pool.sweeper ≡ (sweep limit g).pool.sweeper = ap (λ (x : Ground). x.pool.sweeper) e in
+sweep-left-any : (limit : ℕ) (g : Ground) → length g.cells - (g.pool.sweeper + 1) ≤ length (sweep limit g).cells - (sweep limit g).pool.sweeper
+sweep-left-any limit g = left-any-if (ltb g.pool.sweeper (length g.cells)) limit g
+
+-- No more sweeps count than there are cells left.
+most-if : (b : Bool) (limit k : ℕ) (g : Ground) → ltb g.pool.sweeper (length g.cells) ≡ b
+    → ((h : Ground) → sweeps limit (min k (length h.cells - h.pool.sweeper)) h ≡ sweeps limit k h)
+    → sweeps limit (min (suc k) (length g.cells - g.pool.sweeper)) g ≡ sweeps limit (suc k) g
+most-if false limit k g e rest =
+    let b = ltb-false g.pool.sweeper (length g.cells) e in
+    let none : min (suc k) (length g.cells - g.pool.sweeper) ≡ 0 = omega arith in
+    ap (λ (j : ℕ). sweeps limit j g) none ∙ sym (past limit (suc k) g e)
+most-if true limit k g e rest =
+    let b = ltb-true g.pool.sweeper (length g.cells) e in
+    let h : Ground = sweep limit g in
+    let same : h ≡ sweep_if true limit g = ap (λ (b : Bool). sweep_if b limit g) e in
+    let len = ap (λ (x : Ground). length x.cells - x.pool.sweeper) same ∙ sweep-left limit g in
+    let one : min (suc k) (length g.cells - g.pool.sweeper) ≡ suc (min k (length h.cells - h.pool.sweeper)) = omega arith in
+    ap (λ (j : ℕ). sweeps limit j g) one ∙ rest h
+
+pub sweeps-most : (limit k : ℕ) (g : Ground) → sweeps limit (min k (length g.cells - g.pool.sweeper)) g ≡ sweeps limit k g
+sweeps-most limit zero g =
+    let none : min 0 (length g.cells - g.pool.sweeper) ≡ 0 = omega arith in
+    ap (λ (j : ℕ). sweeps limit j g) none
+sweeps-most limit (suc k) g = most-if (ltb g.pool.sweeper (length g.cells)) limit k g refl (sweeps-most limit k)
+
+-- A run of free cells, and the cell after it.
+pub sweeps-more : (limit limit' k r : ℕ) (g h : Ground) → 0 < k → r ≡ free_run g.cells g.pool.sweeper (k - 1) → limit' ≡ limit → h ≡ sweep limit (forward r g)
+    → sweeps limit' (k - (r + 1)) h ≡ sweeps limit k g
+sweeps-more limit limit' k r g h some run same e =
+    let f = run-few g.cells g.pool.sweeper (k - 1) in
+    let all : k ≡ free_run g.cells g.pool.sweeper (k - 1) + suc (k - (r + 1)) = omega arith in
+    let j : ℕ = k - (r + 1) in
+    ap₂ (λ (n : ℕ) (x : Ground). sweeps n j x) same e
+    ∙ ap (λ (i : ℕ). sweeps limit (suc j) (forward i g)) run
+    ∙ sym (run-sweeps limit (k - 1) (suc j) k g all)
+
+pub left-after : (limit k r : ℕ) (g h : Ground) → 0 < k → k ≤ length g.cells - g.pool.sweeper → r ≡ free_run g.cells g.pool.sweeper (k - 1) → h ≡ sweep limit (forward r g)
+    → k - (r + 1) ≤ length h.cells - h.pool.sweeper
+left-after limit k r g h some fits run e =
+    let f = run-few g.cells g.pool.sweeper (k - 1) in
+    let one = sweep-left-any limit (forward r g) in
+    let len = ap (λ (x : Ground). length x.cells - x.pool.sweeper) e in
     omega arith
-
-pub swept-few : (b : Bool) → cond b 1 0 ≤ 1
-swept-few true = omega arith
-swept-few false = omega arith

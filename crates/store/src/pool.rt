@@ -1,7 +1,8 @@
 // The free list, and where the sweep stands: sweeping. The bank is a parameter of each step, since the heap owns it.
-ghost use Rattle.std.specs.Prelude.{◌≡◌, ◌-◌, min, false, length, if◌then◌else◌, nat_lt};
+ghost use Rattle.std.specs.Prelude.{◌≡◌, ◌-◌, min, false, length};
 ghost use Rattle.collector.specs.Turns.{is_reserved, treat, sweep, sweeps};
 ghost use Rattle.store.specs.Meaning.{ground_of};
+ghost use Rattle.store.specs.Passing.{is_passed, free_run};
 
 use bank::{Bank, Cell, Change, MOST_CELLS, Word};
 
@@ -43,20 +44,18 @@ impl Pool {
         }
     }
 
-    // Sweeps the cell at the sweeper; the count of cells swept, none past the last.
+    // Sweeps the cell at the sweeper; none past the last.
     #[inline(always)]
-    fn sweep<B: Bank>(&mut self, bank: &mut B) -> u32
+    fn sweep<B: Bank>(&mut self, bank: &mut B)
         ensures ground { ground_of B.cells bank.new self.new ≡ sweep (B.limit bank.old) (ground_of B.cells bank.old self.old) }
-        ensures swept { result ≡ (if nat_lt self.old.sweeper (length (B.cells bank.old)) then 1 else 0) }
         ensures limit { B.limit bank.new ≡ B.limit bank.old }
     {
         let n = self.sweeper;
         let Ok(cell) = bank.cell(n) else {
-            return 0;
+            return;
         };
         self.treat(bank, n, cell);
         self.sweeper += 1;
-        1
     }
 
     // The share of a sweep turn: up to k cells. The count of cells swept.
@@ -67,13 +66,47 @@ impl Pool {
         ensures swept { result ≡ min k (length (B.cells bank.old) - self.old.sweeper) }
         ensures limit { B.limit bank.new ≡ B.limit bank.old }
     {
+        let swept = u32::from(k).min(bank.size().saturating_sub(self.sweeper));
         // A copy of its own, which the loop can hold in registers.
         let mut pool = *self;
-        let mut swept = 0;
-        for _ in 0..k {
-            swept += pool.sweep(bank);
+        let mut left = swept;
+        while left > 0 {
+            // Nothing is written while free cells are passed, so what the bank stands on is read once for all of them.
+            let run = free_run(bank, pool.sweeper, left - 1);
+            pool.sweeper += run;
+            pool.sweep(bank);
+            left -= run + 1;
         }
         *self = pool;
         swept
     }
+}
+
+// Whether a sweep leaves the cell as it is: free, and without a mark.
+#[inline(always)]
+fn is_passed(cell: Cell) -> bool
+    ensures { result ≡ is_passed cell }
+{
+    match (cell.mark, cell.cdr) {
+        (false, Word::Reserved) => true,
+        _ => false,
+    }
+}
+
+// How many of the cells from n on, up to `most`, a sweep leaves as they are.
+#[inline(always)]
+fn free_run<B: Bank>(bank: &B, n: u32, most: u32) -> u32
+    ensures { result ≡ free_run (B.cells bank.now) n most }
+{
+    let mut next = n;
+    for run in 0..most {
+        let Ok(cell) = bank.cell(next) else {
+            return run;
+        };
+        if !is_passed(cell) {
+            return run;
+        }
+        next += 1;
+    }
+    most
 }
