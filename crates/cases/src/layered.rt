@@ -2,7 +2,7 @@
 use crate::text::{Place, zone, zone_store};
 use atoms::Zone;
 use bank::{Bank, Cell};
-use collector::Call;
+use listcalls::Call;
 use layers::{Hold, Join, Window};
 use memory::{PackedBank, RecordBank};
 use replies::Reply;

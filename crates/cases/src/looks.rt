@@ -1,7 +1,7 @@
 // What a register holds, and whether two hold the same: not by the number of a word alone, nor by a cell's words.
 use crate::text::{make, zone, zone_store};
 use bank::Bank;
-use collector::Call;
+use listcalls::Call;
 use memory::PackedBank;
 
 pub fn work(rt: &HostRuntime) -> anyhow::Result<()> {

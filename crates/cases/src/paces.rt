@@ -2,7 +2,7 @@
 use crate::text::{effort, make, repeat};
 use atoms::zones::Zones;
 use bank::Bank;
-use collector::Call;
+use listcalls::Call;
 use memory::PackedBank;
 use pacing::floor::FloorRule;
 use pacing::paced::PacedRule;

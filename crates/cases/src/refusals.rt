@@ -4,7 +4,7 @@ use atoms::Zone;
 use atoms::kind::Kind;
 use atoms::zones::Zones;
 use bank::{Bank, BankFault, Cell, Change, Word};
-use collector::Call;
+use listcalls::Call;
 use memory::{PackedBank, RecordBank};
 use pacing::effort::Effort;
 use replies::LineFault;

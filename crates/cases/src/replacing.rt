@@ -2,7 +2,7 @@
 use crate::text::{make, repeat, show, zone, zone_store};
 use atoms::Zone;
 use bank::Bank;
-use collector::Call;
+use listcalls::Call;
 use memory::PackedBank;
 use store::ListStore;
 

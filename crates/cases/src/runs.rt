@@ -3,7 +3,7 @@ use crate::text::{CallText, Place, WordText, effort, show, told, zone};
 use atoms::Zone;
 use atoms::zones::Zones;
 use bank::Bank;
-use collector::Call;
+use listcalls::Call;
 use memory::PackedBank;
 use pacing::floor::FloorRule;
 use replies::Reply;

@@ -4,7 +4,7 @@ use atoms::Kind;
 use atoms::aspect::{Aspect, Seconds, Train};
 use atoms::aspects::Aspects;
 use bank::{Bank, Cell};
-use collector::{Seen, StoreFault};
+use listcalls::{Seen, StoreFault};
 use layers::{Hold, Join, Window};
 use memory::{PackedBank, RecordBank};
 use pacing::paced::PacedRule;

@@ -1,7 +1,7 @@
 // Banks with no cell, with one, and full ones.
 use crate::text::{count, make, repeat, show, zone, zone_store};
 use bank::Bank;
-use collector::Call;
+use listcalls::Call;
 use memory::PackedBank;
 
 pub fn work(rt: &HostRuntime) -> anyhow::Result<()> {

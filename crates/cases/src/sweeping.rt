@@ -1,7 +1,7 @@
 // Cells taken while sweeping: above the sweeper, at it and below it.
 use crate::text::{make, repeat, show, zone_store};
 use bank::Bank;
-use collector::Call;
+use listcalls::Call;
 use memory::PackedBank;
 
 pub fn work(rt: &HostRuntime) -> anyhow::Result<()> {

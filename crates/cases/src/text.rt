@@ -3,7 +3,7 @@ use anyhow::anyhow;
 use atoms::Zone;
 use atoms::zones::Zones;
 use bank::{Bank, Cell, Word};
-use collector::{Call, Phase};
+use listcalls::{Call, Phase};
 use pacing::effort::Effort;
 use pacing::floor::FloorRule;
 use replies::{LineFault, Reply};

@@ -1,6 +1,6 @@
 -- What holds of a collection at each of its turns holds of every collection of a run.
 use Rattle.std.proofs.Common.{◌≡◌, Bool, true, false, List, [], ◌∷◌, rules}
-use Rattle.collector.specs.declared.phase.Phase.{Phase}
+use Rattle.listcalls.specs.declared.phase.Phase.{Phase}
 use Rattle.collector.specs.Lists.{Each}
 use Rattle.collector.specs.States.{State}
 use Rattle.collector.specs.Runs.{Event, next, Collection, onward, ended, collections_from}

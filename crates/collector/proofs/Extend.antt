@@ -1,6 +1,6 @@
 -- A run grows by one call at its end.
 use Rattle.std.proofs.Common.{◌≡◌, ℕ, Bool, List, [], ◌∷◌, ◌++◌, refl, sym, ◌∙◌, ap, subst, rules}
-use Rattle.collector.specs.declared.call.Call.{Call}
+use Rattle.listcalls.specs.declared.call.Call.{Call}
 use Rattle.collector.specs.States.{Fixed, State, new}
 use Rattle.collector.specs.Outcomes.{Outcome}
 use Rattle.collector.specs.Runs.{Event, next, outcome, final, outcomes, calls_of, Keeps, Admissible, asks, RuleAfter, Ruled}

@@ -2,7 +2,7 @@
 use Rattle.std.proofs.Common.{◌≡◌, ℕ, ◌<◌, ◌≤◌, true, false, ◌⊎◌, List, [], ◌∷◌, ◌++◌, length}
 use Rattle.bank.specs.declared.word.Word.{Word}
 use Rattle.bank.specs.declared.word.Cell.{Cell}
-use Rattle.collector.specs.declared.phase.Phase.{Phase}
+use Rattle.listcalls.specs.declared.phase.Phase.{Phase}
 use Rattle.collector.specs.Lists.{Mem, Distinct, Each}
 use Rattle.collector.specs.States.{Heap, Pool, State, at, size, roots}
 use Rattle.collector.specs.Calls.{car_of, cdr_of}

@@ -3,10 +3,10 @@ use Rattle.std.proofs.Common.{◌≡◌, ℕ, ◌-◌, ◌≤◌, Bool, true, fa
 use Rattle.std.proofs.lemmas.Bool.{cases_eq, both_ways}
 use Rattle.bank.specs.declared.word.Word.{Word}
 use Rattle.bank.specs.declared.word.Cell.{Cell}
-use Rattle.collector.specs.declared.call.Call.{Call}
-use Rattle.collector.specs.declared.call.Answer.{Answer}
-use Rattle.collector.specs.declared.fault.StoreFault.{StoreFault}
-use Rattle.collector.specs.declared.phase.Phase.{Phase}
+use Rattle.listcalls.specs.declared.call.Call.{Call}
+use Rattle.listcalls.specs.declared.call.Answer.{Answer}
+use Rattle.listcalls.specs.declared.fault.StoreFault.{StoreFault}
+use Rattle.listcalls.specs.declared.phase.Phase.{Phase}
 use Rattle.collector.specs.Lists.{Each, AtMost}
 use Rattle.collector.specs.States.{Fixed, Atoms, State, at, size, new, roots}
 use Rattle.collector.specs.Turns.{turn, work}

@@ -1,6 +1,6 @@
 -- What a turn leaves as it was: the registers, what is fixed, and the words of live cells.
 use Rattle.std.proofs.Common.{◌≡◌, ℕ, Bool, true, false, sym, refl, ◌∙◌, rules}
-use Rattle.collector.specs.declared.phase.Phase.{Phase}
+use Rattle.listcalls.specs.declared.phase.Phase.{Phase}
 use Rattle.collector.specs.States.{State, at, size}
 use Rattle.collector.specs.Turns.{turn_in, turn}
 use Rattle.collector.specs.Runs.{Event, next, Collection, onward}

@@ -2,7 +2,7 @@
 use Rattle.std.proofs.Common.{◌≡◌, ℕ, zero, suc, ◌+◌, ◌-◌, ◌*◌, ◌<◌, ◌≤◌, min, Bool, true, false, cond, leb, ◌⊎◌, List, [], ◌∷◌, ◌++◌, length, refl, ap, inl, inr, arith, length-append, rules}
 use Rattle.std.proofs.lemmas.Bool.{both_ways, leb-false}
 use Rattle.bank.specs.declared.word.Cell.{Cell}
-use Rattle.collector.specs.declared.phase.Phase.{Phase}
+use Rattle.listcalls.specs.declared.phase.Phase.{Phase}
 use Rattle.collector.specs.Lists.{Distinct, Each, is_empty}
 use Rattle.collector.specs.States.{Heap, State, size}
 use Rattle.collector.specs.Turns.{Ground, scan_on, scans, scanned, sweeps, begun, marked, ground, swept, turn_in, turn}

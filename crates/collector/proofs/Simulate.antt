@@ -5,9 +5,9 @@ use Rattle.bank.specs.Words.{with_car, with_cdr}
 use Rattle.bank.specs.Banks.{changed}
 use Rattle.bank.specs.declared.word.Word.{Word}
 use Rattle.bank.specs.declared.word.Cell.{Cell}
-use Rattle.collector.specs.declared.call.Call.{Call}
-use Rattle.collector.specs.declared.call.Answer.{Answer}
-use Rattle.collector.specs.declared.call.Seen.{Seen}
+use Rattle.listcalls.specs.declared.call.Call.{Call}
+use Rattle.listcalls.specs.declared.call.Answer.{Answer}
+use Rattle.listcalls.specs.declared.call.Seen.{Seen}
 use Rattle.collector.specs.States.{Fixed, State, at, new}
 use Rattle.collector.specs.Turns.{turn, work}
 use Rattle.collector.specs.Outcomes.{Outcome, After, done, answer, registers_of, absent, register, seen, same_word}

@@ -6,10 +6,10 @@ use Rattle.bank.specs.Words.{number_of, with_car, with_cdr}
 use Rattle.bank.specs.Banks.{asked, changed}
 use Rattle.bank.specs.declared.word.Word.{Word}
 use Rattle.bank.specs.declared.word.Cell.{Cell}
-use Rattle.collector.specs.declared.call.Call.{Call}
-use Rattle.collector.specs.declared.call.Answer.{Answer}
-use Rattle.collector.specs.declared.fault.StoreFault.{StoreFault}
-use Rattle.collector.specs.declared.phase.Phase.{Phase}
+use Rattle.listcalls.specs.declared.call.Call.{Call}
+use Rattle.listcalls.specs.declared.call.Answer.{Answer}
+use Rattle.listcalls.specs.declared.fault.StoreFault.{StoreFault}
+use Rattle.listcalls.specs.declared.phase.Phase.{Phase}
 use Rattle.collector.specs.Lists.{Mem}
 use Rattle.collector.specs.States.{Heap, State, at, roots}
 use Rattle.collector.specs.Turns.{offer, work}

@@ -1,7 +1,7 @@
 -- Under the starvation bound there is a free cell after every turn.
 use Rattle.std.proofs.Common.{◌≡◌, ℕ, ◌+◌, ◌-◌, ◌*◌, ◌≤◌, min, Bool, true, false, cond, leb, List, [], ◌++◌, length, ap, ◌∙◌, inl, inr, mul-le-mul_left, arith, length-append, rules}
 use Rattle.std.proofs.lemmas.Bool.{cases_lt, leb-true}
-use Rattle.collector.specs.declared.phase.Phase.{Phase}
+use Rattle.listcalls.specs.declared.phase.Phase.{Phase}
 use Rattle.collector.specs.Lists.{AtMost}
 use Rattle.collector.specs.States.{State, size}
 use Rattle.collector.specs.Turns.{Ground, sweeps, freed, marked, ground, swept, turn_in, turn}

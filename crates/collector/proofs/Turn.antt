@@ -3,7 +3,7 @@ use Rattle.std.proofs.Common.{◌≡◌, ℕ, ◌+◌, ◌<◌, ◌≤◌, min, 
 use Rattle.std.proofs.lemmas.Bool.{both_ways}
 use Rattle.bank.specs.declared.word.Word.{Word}
 use Rattle.bank.specs.declared.word.Cell.{Cell}
-use Rattle.collector.specs.declared.phase.Phase.{Phase}
+use Rattle.listcalls.specs.declared.phase.Phase.{Phase}
 use Rattle.collector.specs.Lists.{Mem, Each, is_empty}
 use Rattle.collector.specs.States.{Heap, Pool, State, at, roots}
 use Rattle.collector.specs.Turns.{Ground, offers, scans, scanned, sweeps, freed, begun, marked, ground, swept, turn_in, turn}

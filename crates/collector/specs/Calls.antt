@@ -5,10 +5,10 @@ use Rattle.bank.specs.Banks.{fits, on_cell, taken, asked, changed, word_put, wor
 use Rattle.bank.specs.declared.fault.BankFault.{BankFault}
 use Rattle.bank.specs.declared.word.Word.{Word}
 use Rattle.bank.specs.declared.word.Cell.{Cell}
-use Rattle.collector.specs.declared.call.Call.{Call}
-use Rattle.collector.specs.declared.call.Answer.{Answer}
-use Rattle.collector.specs.declared.fault.StoreFault.{StoreFault}
-use Rattle.collector.specs.declared.phase.Phase.{Phase}
+use Rattle.listcalls.specs.declared.call.Call.{Call}
+use Rattle.listcalls.specs.declared.call.Answer.{Answer}
+use Rattle.listcalls.specs.declared.fault.StoreFault.{StoreFault}
+use Rattle.listcalls.specs.declared.phase.Phase.{Phase}
 use Rattle.collector.specs.States.{Heap, Pool, State, at}
 use Rattle.collector.specs.Turns.{offer, turn, work}
 use Rattle.collector.specs.Outcomes.{After, refuse, done, answer, registers_of, absent, register, seen, same_word}

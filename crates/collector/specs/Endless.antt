@@ -2,9 +2,9 @@
 use Rattle.std.specs.Prelude.{ℕ, Bool, true, false, List, [], ◌∷◌, ◌++◌, length, replicate, Some, None, Option, nat_le, slice_index_or, slice_set}
 use Rattle.bank.specs.declared.fault.BankFault.{BankFault}
 use Rattle.bank.specs.declared.word.Word.{Word}
-use Rattle.collector.specs.declared.call.Call.{Call}
-use Rattle.collector.specs.declared.call.Answer.{Answer}
-use Rattle.collector.specs.declared.fault.StoreFault.{StoreFault}
+use Rattle.listcalls.specs.declared.call.Call.{Call}
+use Rattle.listcalls.specs.declared.call.Answer.{Answer}
+use Rattle.listcalls.specs.declared.fault.StoreFault.{StoreFault}
 use Rattle.collector.specs.States.{Atoms}
 use Rattle.collector.specs.Outcomes.{After, refuse, done, answer, registers_of, absent, register, seen, same_word}
 

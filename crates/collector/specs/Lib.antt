@@ -1,7 +1,6 @@
 pub mod Lists
 pub mod States
 pub mod Turns
-pub mod Faults
 pub mod Outcomes
 pub mod Calls
 pub mod Endless

@@ -1,10 +1,10 @@
 -- What a call comes to, in a store as in the endless heap, as far as registers and words decide it.
 use Rattle.std.specs.Prelude.{ℕ, Bool, true, false, if◌then◌else◌, List, [], ◌∷◌, Some, None, Ok, Err, Option, Result, ◌==◌, nat_lt, slice_index_or}
 use Rattle.bank.specs.declared.word.Word.{Word}
-use Rattle.collector.specs.declared.call.Call.{Call}
-use Rattle.collector.specs.declared.call.Answer.{Answer}
-use Rattle.collector.specs.declared.call.Seen.{Seen}
-use Rattle.collector.specs.declared.fault.StoreFault.{StoreFault}
+use Rattle.listcalls.specs.declared.call.Call.{Call}
+use Rattle.listcalls.specs.declared.call.Answer.{Answer}
+use Rattle.listcalls.specs.declared.call.Seen.{Seen}
+use Rattle.listcalls.specs.declared.fault.StoreFault.{StoreFault}
 use Rattle.collector.specs.States.{Atoms}
 
 abbrev pub Outcome : Type 0 → Type 0

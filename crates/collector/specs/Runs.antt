@@ -1,7 +1,7 @@
 -- Runs: lists of calls from a new store, with what the start rule said, and the collections of a run.
 use Rattle.std.specs.Prelude.{◌≡◌, ℕ, ◌+◌, ◌≤◌, Bool, true, false, List, [], ◌∷◌, ◌++◌, map, Some, None, Option, nat_le}
-use Rattle.collector.specs.declared.call.Call.{Call}
-use Rattle.collector.specs.declared.phase.Phase.{Phase}
+use Rattle.listcalls.specs.declared.call.Call.{Call}
+use Rattle.listcalls.specs.declared.phase.Phase.{Phase}
 use Rattle.collector.specs.States.{State}
 use Rattle.collector.specs.Turns.{scanned, freed, ground}
 use Rattle.collector.specs.Outcomes.{Outcome, registers_of, absent}

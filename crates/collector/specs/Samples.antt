@@ -1,9 +1,9 @@
 -- A short run, worked out by the definitions.
 use Rattle.std.specs.Prelude.{◌≡◌, ℕ, true, List, [], ◌∷◌, Some, Ok, Err}
-use Rattle.collector.specs.declared.call.Answer.{Answer}
-use Rattle.collector.specs.declared.call.Call.{Call}
-use Rattle.collector.specs.declared.call.Seen.{Seen}
-use Rattle.collector.specs.declared.fault.StoreFault.{StoreFault}
+use Rattle.listcalls.specs.declared.call.Answer.{Answer}
+use Rattle.listcalls.specs.declared.call.Call.{Call}
+use Rattle.listcalls.specs.declared.call.Seen.{Seen}
+use Rattle.listcalls.specs.declared.fault.StoreFault.{StoreFault}
 use Rattle.collector.specs.Runs.{outcomes, under_floor}
 use Rattle.collector.specs.States.{State, new}
 

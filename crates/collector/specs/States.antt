@@ -2,7 +2,7 @@
 use Rattle.std.specs.Prelude.{ℕ, zero, suc, true, false, List, [], ◌∷◌, length, replicate, Option, slice_index_or}
 use Rattle.bank.specs.declared.word.Word.{Word}
 use Rattle.bank.specs.declared.word.Cell.{Cell}
-use Rattle.collector.specs.declared.phase.Phase.{Phase}
+use Rattle.listcalls.specs.declared.phase.Phase.{Phase}
 
 -- The cells, and the numbers of those that wait to be scanned, the latest first.
 pub record Heap : Type 0 where

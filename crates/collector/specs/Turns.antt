@@ -4,7 +4,7 @@ use Rattle.bank.specs.Words.{with_car, with_cdr, with_mark}
 use Rattle.bank.specs.Banks.{changed, word_put}
 use Rattle.bank.specs.declared.word.Word.{Word}
 use Rattle.bank.specs.declared.word.Cell.{Cell}
-use Rattle.collector.specs.declared.phase.Phase.{Phase}
+use Rattle.listcalls.specs.declared.phase.Phase.{Phase}
 use Rattle.collector.specs.Lists.{is_empty}
 use Rattle.collector.specs.States.{Heap, Pool, State, roots, at}
 

@@ -1,14 +1,8 @@
 // A list store and its collector, as definitions with laws over every run of them; no call runs here.
 #![tactic(auto)]
 
-mod call;
-mod fault;
-mod phase;
 mod theorems;
 
-pub use call::{Answer, Call, Outcome, Seen};
-pub use fault::StoreFault;
-pub use phase::Phase;
 pub use theorems::{
     bound_in_figures, collections_are_brief, every_run_is_lawful, every_state_is_safe,
     refusals_are_harmless, runs_grow, sample_run,

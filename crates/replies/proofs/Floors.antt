@@ -6,7 +6,7 @@ use Rattle.bank.specs.declared.word.Cell.{Cell}
 use Rattle.collector.specs.Laws.{Grounded, Lawful}
 use Rattle.collector.specs.Runs.{Event, Collection, next, onward, beginning, Admissible, RuleAfter, under_floor}
 use Rattle.collector.specs.States.{Fixed, State, new}
-use Rattle.collector.specs.declared.call.Call.{Call}
+use Rattle.listcalls.specs.declared.call.Call.{Call}
 use Rattle.collector.proofs.Invariant.{Inv}
 use Rattle.collector.proofs.Laws.{every_run_lawful}
 use Rattle.collector.proofs.Moves.{next-fixed}

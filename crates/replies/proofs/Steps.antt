@@ -2,7 +2,7 @@
 use Rattle.std.proofs.Common.{◌≡◌, ℕ, ◌+◌, ◌<◌, List, [], ◌++◌, length, drop, get_or, Some, None, Ok, Err, Option, Result, refl, sym, ap, ap₂, ◌∙◌, append-nil}
 use Rattle.std.proofs.lemmas.List.{append_assoc, drop_more}
 use Rattle.atoms.specs.declared.zone.Zone.{Zone}
-use Rattle.collector.specs.declared.call.Call.{Call}
+use Rattle.listcalls.specs.declared.call.Call.{Call}
 use Rattle.collector.specs.Runs.{outcome, outcomes, under_floor}
 use Rattle.collector.specs.States.{State}
 use Rattle.plan.specs.declared.line.Line.{Line}

@@ -1,7 +1,7 @@
 -- A line's refusal, by its number and the values that it returns.
 use Rattle.std.specs.Prelude.{ℕ, List, [], ◌∷◌, Some, None, Option}
 use Rattle.atoms.specs.Refusals.{told as zone_told}
-use Rattle.collector.specs.Faults.{told as store_told}
+use Rattle.listcalls.specs.Faults.{told as store_told}
 use Rattle.pacing.specs.Refusals.{told as effort_told}
 use Rattle.replies.specs.declared.fault.LineFault.{LineFault}
 

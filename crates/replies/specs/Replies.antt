@@ -3,8 +3,8 @@ use Rattle.std.specs.Prelude.{ℕ, true, false, List, [], ◌∷◌, ◌++◌, O
 use Rattle.atoms.specs.declared.zone.Zone.{Zone}
 use Rattle.atoms.specs.Refusals.{spoken}
 use Rattle.atoms.specs.Zones.{pair_text}
-use Rattle.collector.specs.declared.call.Answer.{Answer}
-use Rattle.collector.specs.declared.call.Seen.{Seen}
+use Rattle.listcalls.specs.declared.call.Answer.{Answer}
+use Rattle.listcalls.specs.declared.call.Seen.{Seen}
 use Rattle.collector.specs.Outcomes.{Outcome}
 use Rattle.replies.specs.declared.fault.LineFault.{LineFault}
 use Rattle.replies.specs.declared.reply.Reply.{Reply}

@@ -3,7 +3,7 @@ use Rattle.std.specs.Prelude.{ℕ, List, [], ◌∷◌, Some, None, Ok, Err, Opt
 use Rattle.atoms.specs.declared.fault.ZoneFault.{ZoneFault}
 use Rattle.atoms.specs.declared.zone.Zone.{Zone}
 use Rattle.atoms.specs.Zones.{zone_at}
-use Rattle.collector.specs.declared.call.Call.{Call}
+use Rattle.listcalls.specs.declared.call.Call.{Call}
 use Rattle.collector.specs.Outcomes.{Outcome}
 use Rattle.plan.specs.declared.line.Line.{Line}
 use Rattle.replies.specs.declared.fault.LineFault.{LineFault}

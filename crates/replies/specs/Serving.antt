@@ -4,7 +4,7 @@ use Rattle.atoms.specs.declared.zone.Zone.{Zone}
 use Rattle.atoms.specs.declared.zones.Zones.{Zones}
 use Rattle.atoms.specs.Zones.{zone_code, zone_of}
 use Rattle.bank.specs.declared.word.Cell.{Cell}
-use Rattle.collector.specs.declared.call.Call.{Call}
+use Rattle.listcalls.specs.declared.call.Call.{Call}
 use Rattle.collector.specs.Runs.{Event, next, outcome, outcomes, under_floor}
 use Rattle.collector.specs.States.{State}
 use Rattle.pacing.specs.Floors.{floor_of}

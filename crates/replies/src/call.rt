@@ -4,7 +4,7 @@ ghost use Rattle.replies.specs.Requests.{call_of};
 
 use super::fault::LineFault;
 use atoms::Zone;
-use collector::Call;
+use listcalls::Call;
 use plan::Line;
 
 // The call of a line, or why it comes to none; a store line asks for no call.

@@ -6,7 +6,7 @@ ghost use Rattle.replies.specs.declared.fault.LineFault.{LineFault};
 
 use atoms::fault::ZoneFault;
 use bank::BankFault;
-use collector::StoreFault;
+use listcalls::StoreFault;
 use pacing::fault::EffortFault;
 use std::fmt;
 

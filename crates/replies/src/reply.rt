@@ -4,7 +4,7 @@ ghost use Rattle.replies.specs.Replies.{reply_text, reply_in, reply_of, answer_r
 
 use super::fault::LineFault;
 use atoms::Zone;
-use collector::{Answer, Outcome, Seen};
+use listcalls::{Answer, Outcome, Seen};
 use std::fmt;
 
 #[derive(Clone, Copy, PartialEq, Eq, Debug)]

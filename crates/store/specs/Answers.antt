@@ -1,7 +1,7 @@
 -- What a method returns, as the outcome of its call.
 use Rattle.std.specs.Prelude.{Ok, Err, Result}
-use Rattle.collector.specs.declared.call.Answer.{Answer}
-use Rattle.collector.specs.declared.fault.StoreFault.{StoreFault}
+use Rattle.listcalls.specs.declared.call.Answer.{Answer}
+use Rattle.listcalls.specs.declared.fault.StoreFault.{StoreFault}
 use Rattle.collector.specs.Outcomes.{Outcome}
 
 abbrev pub outcome_by : {A V : Type 0} → (A → Answer V) → Result A StoreFault → Outcome V

@@ -3,7 +3,7 @@ use Rattle.std.specs.Prelude.{ℕ}
 use Rattle.bank.specs.declared.word.Word.{Word}
 use Rattle.bank.specs.declared.word.Cell.{Cell}
 use Rattle.bank.specs.declared.word.Change.{Change}
-use Rattle.collector.specs.declared.call.Call.{Call}
+use Rattle.listcalls.specs.declared.call.Call.{Call}
 use Rattle.store.specs.declared.half.Half.{Half}
 
 abbrev pub word_of : Half → Cell → Word

@@ -1,7 +1,7 @@
 -- What comes of making a list of calls: every call was made, or memory for the outcomes ran out and some front of the calls was made.
 use Rattle.std.specs.Prelude.{ℕ, Bool, List, [], ◌∷◌, ◌++◌, take, Ok, Err, vec_items, Result, Vec}
 use Rattle.std.specs.declared.alloc.Global.{Global}
-use Rattle.collector.specs.declared.call.Call.{Call}
+use Rattle.listcalls.specs.declared.call.Call.{Call}
 use Rattle.collector.specs.States.{Fixed, State}
 use Rattle.collector.specs.Outcomes.{Outcome}
 use Rattle.store.specs.declared.runs.RunFault.{RunFault}

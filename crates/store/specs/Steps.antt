@@ -1,6 +1,6 @@
 -- The parts of a turn: the share of work that its phase has, and whether the phase is over.
 use Rattle.std.specs.Prelude.{Bool, length, nat_le}
-use Rattle.collector.specs.declared.phase.Phase.{Phase}
+use Rattle.listcalls.specs.declared.phase.Phase.{Phase}
 use Rattle.collector.specs.Lists.{is_empty}
 use Rattle.collector.specs.States.{State}
 use Rattle.collector.specs.Turns.{Ground, ground, scans, sweeps}

@@ -2,8 +2,8 @@
 // call, for every state. What the start rule says counts in a cons alone.
 ghost use Rattle.std.specs.Prelude.{◌≡◌, ℕ, Bool};
 ghost use Rattle.bank.specs.Banks.{asked};
-ghost use Rattle.collector.specs.declared.call.Answer.{Answer};
-ghost use Rattle.collector.specs.declared.call.Call.{Call};
+ghost use Rattle.listcalls.specs.declared.call.Answer.{Answer};
+ghost use Rattle.listcalls.specs.declared.call.Call.{Call};
 ghost use Rattle.collector.specs.Calls.{call_under};
 ghost use Rattle.collector.specs.Outcomes.{register_asked};
 ghost use Rattle.collector.specs.States.{State, size};
@@ -12,7 +12,7 @@ ghost use Rattle.collector.specs.Laws.{Grounded};
 ghost use Rattle.store.specs.Answers.{outcome_by, outcome_of};
 
 use bank::{BankFault, Cell, Word};
-use collector::{Answer, Call, Outcome, Phase, Seen, StoreFault};
+use listcalls::{Answer, Call, Outcome, Phase, Seen, StoreFault};
 
 // A call with nothing to answer.
 fn done<V>(res: Result<(), StoreFault>) -> Outcome<V>

@@ -3,7 +3,7 @@ ghost use Rattle.bank.specs.declared.word.Word.{Word};
 ghost use Rattle.collector.specs.Outcomes.{register_asked};
 
 use bank::Word;
-use collector::StoreFault;
+use listcalls::StoreFault;
 
 // The sixteen registers. Their count stands beside the array's type, since without it the proof of a cons is not found.
 #[derive(Clone, Copy, PartialEq, Eq, Debug)]

@@ -8,7 +8,7 @@ use crate::list_store::ListStore;
 use crate::store::Store;
 use atoms::Kind;
 use bank::Bank;
-use collector::{Call, Outcome};
+use listcalls::{Call, Outcome};
 use pacing::effort::Effort;
 use pacing::rule::StartRule;
 use std::alloc::{AllocError, Global};

@@ -4,7 +4,7 @@ ghost use Rattle.collector.specs.States.{new as new_state};
 ghost use Rattle.collector.specs.Turns.{begun, turn, work as work_of};
 ghost use Rattle.collector.specs.Calls.{call, with_heap, offer_in, take_from};
 ghost use Rattle.collector.specs.Runs.{RuleAfter, is_idle};
-ghost use Rattle.collector.specs.declared.call.Answer.{Answer};
+ghost use Rattle.listcalls.specs.declared.call.Answer.{Answer};
 ghost use Rattle.store.specs.Answers.{outcome_by, outcome_of};
 ghost use Rattle.store.specs.Halves.{reading, replacing};
 ghost use Rattle.store.specs.Meaning.{fixed_by};
@@ -19,7 +19,7 @@ use crate::registers::Registers;
 use crate::waiting::Waiting;
 use atoms::Kind;
 use bank::{Bank, Word};
-use collector::{Phase, StoreFault};
+use listcalls::{Phase, StoreFault};
 use pacing::effort::Effort;
 use pacing::rule::StartRule;
 

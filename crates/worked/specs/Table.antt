@@ -9,10 +9,10 @@ use Rattle.atoms.specs.declared.zone.Zone.{Zone}
 use Rattle.bank.specs.Words.{blank}
 use Rattle.bank.specs.declared.word.Word.{Word}
 use Rattle.collector.specs.Calls.{call}
-use Rattle.collector.specs.Faults.{told as store_told}
+use Rattle.listcalls.specs.Faults.{told as store_told}
 use Rattle.collector.specs.Outcomes.{Outcome}
 use Rattle.collector.specs.States.{Fixed, new}
-use Rattle.collector.specs.declared.call.Call.{Call}
+use Rattle.listcalls.specs.declared.call.Call.{Call}
 use Rattle.layers.specs.Joins.{joined}
 use Rattle.layers.specs.Windows.{windowed}
 use Rattle.memory.specs.Packing.{packed, packed_top}

@@ -6,7 +6,7 @@ use crate::half::Half;
 use crate::list_store::ListStore;
 use atoms::Kind;
 use bank::{Bank, BankFault, Cell, Word};
-use collector::{Phase, Seen, StoreFault};
+use listcalls::{Phase, Seen, StoreFault};
 use pacing::rule::StartRule;
 
 impl<B: Bank, K: Kind, R: StartRule> ListStore for Store<B, K, R> {

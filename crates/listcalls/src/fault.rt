@@ -1,6 +1,6 @@
 ghost use Rattle.std.specs.Prelude.{◌≡◌};
-ghost use Rattle.collector.specs.Faults.{told};
-ghost use Rattle.collector.specs.declared.fault.StoreFault.{StoreFault};
+ghost use Rattle.listcalls.specs.Faults.{told};
+ghost use Rattle.listcalls.specs.declared.fault.StoreFault.{StoreFault};
 
 use bank::BankFault;
 

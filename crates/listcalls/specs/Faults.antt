@@ -1,7 +1,7 @@
 -- A store's refusals, by number and by the values that each returns.
 use Rattle.std.specs.Prelude.{ℕ, List, [], ◌∷◌}
 use Rattle.bank.specs.Faults.{told as bank_told}
-use Rattle.collector.specs.declared.fault.StoreFault.{StoreFault}
+use Rattle.listcalls.specs.declared.fault.StoreFault.{StoreFault}
 
 abbrev pub told : StoreFault → ℕ × List ℕ
 told (StoreFault.Bank fault) = bank_told fault
