@@ -12,7 +12,7 @@ use pacing::floor::FloorRule;
 use plan::Line;
 use std::alloc::AllocError;
 use std::fmt::Write;
-use store::{ListStore, Store};
+use store::{Store, go_on};
 
 // The line of a reply. Its commonest words are put in as they are, since a formatter takes longer.
 #[inline(always)]
@@ -54,7 +54,7 @@ fn serve_line<B: Bank>(store: &mut Store<B, Zones, FloorRule>, line: Line) -> Op
     ensures floor { floor_in store.new ≡ floor_in store.old }
 {
     match call_of(line) {
-        Ok(call) => Some(Reply::from(&store.apply(&call?))),
+        Ok(call) => Some(Reply::from(&go_on(store, &call?))),
         Err(fault) => Some(Reply::Refused(fault)),
     }
 }

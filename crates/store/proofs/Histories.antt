@@ -12,7 +12,7 @@ use Rattle.collector.specs.Laws.{Grounded, RuledRun}
 use Rattle.collector.proofs.Extend.{ruled-begins, ruled-extends}
 use Rattle.collector.proofs.Start.{linked-length}
 use Rattle.store.specs.declared.runs.RunFault.{RunFault}
-use Rattle.store.specs.Results.{Ran}
+use Rattle.store.specs.Results.{GoesOn, Ran}
 
 module _ {V R : Type 0} (says : R → ℕ → Bool) (becomes : R → ℕ → R → Type 0) (fixed : Fixed V) (N : ℕ) (rule : R) where
   -- A new store has made no call.
@@ -34,13 +34,19 @@ module _ {V R : Type 0} (says : R → ℕ → Bool) (becomes : R → ℕ → R �
       subst (λ (xs : List (Outcome V)). RuledRun says becomes fixed N rule ds xs s p) f (subst (λ (xs : List (Call V)). RuledRun says becomes fixed N rule xs os s p) e r)
 
   -- One more of a list of calls.
-  pub run-next : Grounded fixed N → (cs : List (Call V)) (i : ℕ) (os ps : List (Outcome V)) (s t : State V) (p q : R) (c : Call V) (o : Outcome V)
-      → i < length cs → c ≡ get_or cs i c → ps ≡ os ++ o ∷ [] → Keeps s (says p s.pool.count) → t ≡ (call_under says p s c).state → o ≡ (call_under says p s c).outcome
-      → RuleAfter becomes (asks s c) p s.pool.count q
-      → RuledRun says becomes fixed N rule (take i cs) os s p → RuledRun says becomes fixed N rule (take (i + 1) cs) ps t q
-  run-next ground cs i os ps s t p q c o l here more keeps et eo turned r =
+  pub run-next : (cs : List (Call V)) (i : ℕ) (os ps : List (Outcome V)) (s : State V) (p : R) (c : Call V) (o : Outcome V)
+      → i < length cs → c ≡ get_or cs i c → ps ≡ os ++ o ∷ []
+      → RuledRun says becomes fixed N rule (take i cs ++ c ∷ []) (os ++ o ∷ []) s p → RuledRun says becomes fixed N rule (take (i + 1) cs) ps s p
+  run-next cs i os ps s p c o l here more r =
       let front : take (i + 1) cs ≡ take i cs ++ c ∷ [] = take_more cs i c l ∙ ap (λ (x : Call V). take i cs ++ x ∷ []) (sym here) in
-      run-as t q (take i cs ++ c ∷ []) (take (i + 1) cs) (os ++ o ∷ []) ps (sym front) (sym more) (run_more ground (take i cs) os s t p q c o r keeps et eo turned)
+      run-as s p (take i cs ++ c ∷ []) (take (i + 1) cs) (os ++ o ∷ []) ps (sym front) (sym more) r
+
+-- Every call of a store goes on with its run.
+pub goes_on : {V R : Type 0} (says : R → ℕ → Bool) (becomes : R → ℕ → R → Type 0) (s t : State V) (p q : R) (c : Call V) (o : Outcome V)
+    → Keeps s (says p s.pool.count) → t ≡ (call_under says p s c).state → o ≡ (call_under says p s c).outcome → RuleAfter becomes (asks s c) p s.pool.count q
+    → GoesOn says becomes s p c o t q
+goes_on says becomes s t p q c o keeps et eo turned fixed size ground rule cs os r =
+    run_more says becomes fixed size rule ground cs os s t p q c o r keeps et eo turned
 
 -- What came of a list of calls, where the start rule has another name.
 pub ran-as : {S V R : Type 0} (says : R → ℕ → Bool) (becomes : R → ℕ → R → Type 0) (fixed : Fixed V) (N : ℕ) (p q : R) (cs : List (Call V)) (state : S → State V) (rule_of : S → R)

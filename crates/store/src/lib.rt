@@ -12,5 +12,5 @@ mod store;
 mod waiting;
 
 pub use list_store::ListStore;
-pub use runs::{Run, RunFault, run};
+pub use runs::{Run, RunFault, go_on, run};
 pub use store::Store;

@@ -1,8 +1,10 @@
 // A whole list of calls on a new store.
 ghost use Rattle.std.specs.Prelude.{◌≡◌, ℕ, length};
+ghost use Rattle.collector.specs.Calls.{call_under};
+ghost use Rattle.collector.specs.Runs.{RuleAfter, asks};
 ghost use Rattle.collector.specs.States.{Fixed, new};
 ghost use Rattle.store.specs.Meaning.{fixed_by};
-ghost use Rattle.store.specs.Results.{Ran, store_of};
+ghost use Rattle.store.specs.Results.{GoesOn, Ran, store_of};
 
 use crate::list_store::ListStore;
 use crate::store::Store;
@@ -24,6 +26,19 @@ pub struct RunFault<S, V> {
 // The outcomes of all the calls, and the store after them.
 pub type Run<S, V> = Result<(Vec<Outcome<V>>, S), RunFault<S, V>>;
 
+// Makes a call, as `apply` does. Where the calls so far were a run from a new store, they are one with this call, and the laws of
+// runs hold of it.
+#[inline(always)]
+pub fn go_on<S: ListStore>(store: &mut S, call: &Call<S::Value>) -> Outcome<S::Value>
+    ensures state { S.state store.new ≡ (call_under S.says (S.rule store.old) (S.state store.old) call.now).state }
+    ensures answer { result ≡ (call_under S.says (S.rule store.old) (S.state store.old) call.now).outcome }
+    ensures kind { S.kind store.new ≡ S.kind store.old }
+    ensures rule { RuleAfter S.becomes (asks (S.state store.old) call.now) (S.rule store.old) (S.state store.old).pool.count (S.rule store.new) }
+    ensures law { GoesOn S.says S.becomes (S.state store.old) (S.rule store.old) call.now result (S.state store.new) (S.rule store.new) }
+{
+    store.apply(call)
+}
+
 // Makes every call in order; a store that is new makes a run.
 fn finish<S: ListStore>(heap: Global, mut store: S, calls: &[Call<S::Value>]) -> Run<S, S::Value>
     ensures law { (fixed : Fixed S.Value) (size : ℕ) → S.state store ≡ new fixed size → Ran S.says S.becomes fixed size (S.rule store) calls.now S.state S.rule result }
@@ -31,7 +46,7 @@ fn finish<S: ListStore>(heap: Global, mut store: S, calls: &[Call<S::Value>]) ->
 {
     let mut outcomes = Vec::new(heap);
     for call in calls {
-        let outcome = store.apply(call);
+        let outcome = go_on(&mut store, call);
         if let Err(refused) = outcomes.push(outcome) {
             return Err(RunFault {
                 outcomes,

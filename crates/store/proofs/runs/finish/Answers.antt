@@ -16,31 +16,28 @@ loop-call-init g c =
 pub loop-call-preserved : goal.loop-call-preserved
 loop-call-preserved g c =
     let l = g.S.ListStore in
-    let s = c.loop-call.store in
-    let t = c.apply-outcome.new.self in
+    let t = c.go_on-outcome.new.store in
     let ground = g.met.S.ListStore.grounded c.args.store in (
-      λ fixed size e. run-next l.says l.becomes fixed size (l.rule c.args.store) (grounded-new fixed size (l.state c.args.store) e ground) c.args.calls.now c.loop-call.call-index
-          (vec_items c.loop-call.outcomes) (vec_items c.push.new.self) (l.state s) (l.state t) (l.rule s) (l.rule t) c.call-item.result c.apply-outcome.result
-          c.loop-call-test.true c.call-item.is c.in_default.ensures.items (g.met.S.ListStore.keeps s)
-          c.apply-outcome.ensures.state c.apply-outcome.ensures.answer c.apply-outcome.ensures.rule (c.loop-call.invariant.0 fixed size e),
-      c.apply-outcome.ensures.kind ∙ c.loop-call.invariant.1,
+      λ fixed size e. run-next l.says l.becomes fixed size (l.rule c.args.store) c.args.calls.now c.loop-call.call-index
+          (vec_items c.loop-call.outcomes) (vec_items c.push.new.self) (l.state t) (l.rule t) c.call-item.result c.go_on-outcome.result
+          c.loop-call-test.true c.call-item.is c.in_default.ensures.items
+          (c.go_on-outcome.ensures.law fixed size (grounded-new fixed size (l.state c.args.store) e ground) (l.rule c.args.store) _ _ (c.loop-call.invariant.0 fixed size e)),
+      c.go_on-outcome.ensures.kind ∙ c.loop-call.invariant.1,
     )
 
 pub returns-in-Err-clause-law : goal.returns-in-Err-clause-law
 returns-in-Err-clause-law g c =
     let l = g.S.ListStore in
-    let s = c.loop-call.store in
-    let t = c.apply-outcome.new.self in
+    let t = c.go_on-outcome.new.store in
     let ground = g.met.S.ListStore.grounded c.args.store in
     let p = c.in-Err.ensures in
     λ fixed size e. (
       c.loop-call.call-index + 1,
-      run-next l.says l.becomes fixed size (l.rule c.args.store) (grounded-new fixed size (l.state c.args.store) e ground) c.args.calls.now c.loop-call.call-index
-          (vec_items c.loop-call.outcomes) (vec_items c.push.new.self ++ c.in-Err.refused.value ∷ []) (l.state s) (l.state t) (l.rule s) (l.rule t) c.call-item.result c.apply-outcome.result
+      run-next l.says l.becomes fixed size (l.rule c.args.store) c.args.calls.now c.loop-call.call-index
+          (vec_items c.loop-call.outcomes) (vec_items c.push.new.self ++ c.in-Err.refused.value ∷ []) (l.state t) (l.rule t) c.call-item.result c.go_on-outcome.result
           c.loop-call-test.true c.call-item.is
           (rw (p.items, p.value_returned) refl)
-          (g.met.S.ListStore.keeps s)
-          c.apply-outcome.ensures.state c.apply-outcome.ensures.answer c.apply-outcome.ensures.rule (c.loop-call.invariant.0 fixed size e),
+          (c.go_on-outcome.ensures.law fixed size (grounded-new fixed size (l.state c.args.store) e ground) (l.rule c.args.store) _ _ (c.loop-call.invariant.0 fixed size e)),
     )
 
 pub returns-clause-law : goal.returns-clause-law
