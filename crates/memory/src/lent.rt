@@ -2,7 +2,7 @@ ghost use Rattle.std.specs.Prelude.{◌≡◌, min, length, replicate, is_ok, if
 ghost use Rattle.bank.specs.Words.{blank, with_change};
 ghost use Rattle.bank.specs.Banks.{change_taken, change_put};
 ghost use Rattle.memory.specs.Memories.{cleared, shown, stored, Packed};
-ghost use Rattle.memory.specs.Elements.{sound-memory};
+ghost use Rattle.memory.specs.Elements.{fitted, sound-memory};
 
 use super::element::Element;
 use bank::{Bank, BankFault, Cell, Change, MOST_CELLS};
@@ -72,5 +72,31 @@ impl<'a, E: Element> Bank for LentBank<'a, E> {
         let element = self.memory[n as usize].changed(change);
         self.memory[n as usize] = element;
         Ok(())
+    }
+
+    // The element is read and stored once.
+    #[inline(always)]
+    fn write_cell(&mut self, n: u32, cell: Cell) {
+        if n < self.size() {
+            let element = self.memory[n as usize];
+            let element = fitted(element, Change::Car(cell.car));
+            let element = fitted(element, Change::Cdr(cell.cdr));
+            let element = fitted(element, Change::Mark(cell.mark));
+            self.memory[n as usize] = element;
+        }
+    }
+}
+
+// The element with the change made, where its word fits.
+#[inline(always)]
+fn fitted<E: Element>(element: E, change: Change) -> E
+    requires kept { E.stores (E.shows element) ≡ element }
+    ensures back { E.shows result ≡ fitted E.LIMIT change (E.shows element) }
+    ensures kept { E.stores (E.shows result) ≡ result }
+{
+    if change.word().within(E::LIMIT).is_ok() {
+        element.changed(change)
+    } else {
+        element
     }
 }

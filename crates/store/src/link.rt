@@ -42,7 +42,11 @@ pub fn fill<B: Bank>(
     ensures after { B.cells bank.new ≡ filled (B.limit bank.old) (B.cells bank.old) h car cdr mark }
     ensures fixed { B.limit bank.new ≡ B.limit bank.old }
 {
-    bank.set(h, Change::Car(car))?;
-    bank.set(h, Change::Cdr(cdr))?;
-    bank.set(h, Change::Mark(mark))
+    bank.writable(h, car)?;
+    if let Err(fault) = cdr.within(bank.word_limit()) {
+        bank.set(h, Change::Car(car))?;
+        return Err(fault);
+    }
+    bank.write_cell(h, Cell { car, cdr, mark });
+    Ok(())
 }
