@@ -1,13 +1,14 @@
 -- Sweeps, one after another.
-use Rattle.std.proofs.Common.{◌≡◌, ℕ, zero, suc, ◌+◌, ◌-◌, ◌<◌, ◌≤◌, min, Bool, true, false, cond, ltb, List, length, get_or, Ok, Err, is_ok, sym, refl, ap, ap₂, ◌∙◌, arith}
+use Rattle.std.proofs.Common.{◌≡◌, ℕ, zero, suc, ◌+◌, ◌-◌, ◌<◌, ◌≤◌, min, Bool, true, false, cond, ltb, List, length, get_or, set, Ok, Err, is_ok, sym, refl, ap, ap₂, ◌∙◌, arith}
+use Rattle.std.proofs.lemmas.Grind.{common_steps}
 use Rattle.std.proofs.lemmas.Bool.{ltb-true, ltb-false, both_ways}
 use Rattle.std.proofs.lemmas.List.{get_or_default}
 use Rattle.bank.specs.Words.{blank, with_car, with_cdr, with_mark}
-use Rattle.bank.specs.Banks.{asked, word_put}
+use Rattle.bank.specs.Banks.{asked, changed, word_put, cell_put}
 use Rattle.bank.specs.declared.fault.BankFault.{BankFault}
 use Rattle.bank.specs.declared.word.Word.{Word}
 use Rattle.bank.specs.declared.word.Cell.{Cell}
-use Rattle.bank.proofs.Laws.{length-changed, length-put}
+use Rattle.bank.proofs.Laws.{changed-changed, length-changed, length-put}
 use Rattle.collector.specs.States.{at, dead}
 use Rattle.collector.specs.Turns.{Ground, treat, is_reserved, advance, sweep, sweep_if, sweeps}
 use Rattle.store.specs.Passing.{is_passed, free_run}
@@ -167,3 +168,17 @@ left-after limit k r g h some fits run e =
     let one = sweep-left-any limit (forward r g) in
     let len = ap (λ (x : Ground). length x.cells - x.pool.sweeper) e in
     omega arith
+
+-- A cell without a mark, freed by one write or by one of each word.
+unmarked : (cells : List Cell) (n : ℕ) (put : Cell → Cell) → (put (get_or cells n blank)).mark ≡ false → changed (λ c. with_mark false (put c)) cells n ≡ changed put cells n
+unmarked cells n put e = ap (λ (m : Bool). set cells n (with_mark m (put (get_or cells n blank)))) (sym e)
+
+pub freed_whole : (limit : ℕ) (cells : List Cell) (n : ℕ) (w : Word) → (get_or cells n blank).mark ≡ false
+    → cell_put limit cells n (record { car = w; cdr = Word.Reserved; mark = false }) ≡ word_put with_cdr limit (word_put with_car limit cells n w) n Word.Reserved
+freed_whole limit cells n w e =
+    let car = with_car w in
+    let cdr = with_cdr Word.Reserved in
+    grind (arith, common_steps, changed-changed car cdr cells n, changed-changed (λ c. cdr (car c)) (with_mark false) cells n, changed-changed cdr (with_mark false) cells n, unmarked cells n (λ c. cdr (car c)) e, unmarked cells n cdr e)
+
+-- What the release of a cell uses.
+pub ruleset of_releasing = (freed_whole)

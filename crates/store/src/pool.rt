@@ -1,5 +1,6 @@
 // The free list, and where the sweep stands: sweeping. The bank is a parameter of each step, since the heap owns it.
-ghost use Rattle.std.specs.Prelude.{◌≡◌, ◌-◌, min, false, length};
+ghost use Rattle.std.specs.Prelude.{◌≡◌, ◌-◌, min, false, length, slice_index_or};
+ghost use Rattle.bank.specs.Words.{blank};
 ghost use Rattle.collector.specs.Turns.{is_reserved, treat, sweep, sweeps};
 ghost use Rattle.store.specs.Meaning.{ground_of};
 ghost use Rattle.store.specs.Passing.{is_passed, free_run};
@@ -14,15 +15,21 @@ pub struct Pool {
 }
 
 impl Pool {
-    // Makes a cell the head of the free list.
+    // Makes a cell without a mark the head of the free list.
+    #[tactic(auto, using(crate::proofs::Sweeps::of_releasing))]
     #[inline(always)]
     fn release<B: Bank>(&mut self, bank: &mut B, n: u32)
+        requires unmarked { (slice_index_or (B.cells bank.old) n blank).mark ≡ false }
         ensures ground { ground_of B.cells bank.new self.new ≡ treat false false (B.limit bank.old) n (ground_of B.cells bank.old self.old) }
         ensures limit { B.limit bank.new ≡ B.limit bank.old }
     {
         // A refusal is passed over here as in the definition, and so below; no run meets one.
-        let _ = bank.set(n, Change::Car(self.head));
-        let _ = bank.set(n, Change::Cdr(Word::Reserved));
+        let free = Cell {
+            car: self.head,
+            cdr: Word::Reserved,
+            mark: false,
+        };
+        bank.write_cell(n, free);
         self.head = Word::Cell(n);
         if self.count < MOST_CELLS {
             self.count += 1;
@@ -32,6 +39,7 @@ impl Pool {
     // Takes the mark off cell n, leaves it where it is free, and releases it otherwise.
     #[inline(always)]
     fn treat<B: Bank>(&mut self, bank: &mut B, n: u32, cell: Cell)
+        requires read { cell ≡ slice_index_or (B.cells bank.old) n blank }
         ensures ground { ground_of B.cells bank.new self.new ≡ treat cell.mark (is_reserved cell.cdr) (B.limit bank.old) n (ground_of B.cells bank.old self.old) }
         ensures limit { B.limit bank.new ≡ B.limit bank.old }
     {
