@@ -2,7 +2,7 @@
 use Rattle.std.proofs.Common.{◌≡◌, ℕ, ◌<◌, min, true, List, ◌++◌, map, length, take, drop, get_or, set, replicate, Ok, Err, sym, ap, ◌∙◌, subst, arith}
 use Rattle.std.proofs.lemmas.Grind.{common_steps}
 use lib.LanesLaws.{map-replicate}
-use Rattle.std.proofs.lemmas.List.{length-map, map-set, get_or-map}
+use Rattle.std.proofs.lemmas.List.{length-map, length-set, map-set, get_or-map}
 use Rattle.bank.specs.declared.word.Cell.{Cell}
 use Rattle.bank.specs.declared.word.Change.{Change}
 use Rattle.bank.specs.declared.word.Word.{Word}
@@ -135,6 +135,10 @@ module _ {X : Type 0} (shows : X → Cell) (m : List X) (n : ℕ) where
   pub whole_packed : (stores : Cell → X) (x : X) → stores (shows x) ≡ x → Packed shows stores m → Packed shows stores (set m n x)
   whole_packed stores x kept was = rw kept at (packed-set shows stores m (shows x) (ap shows kept) n was)
 
+-- The size stays.
+pub size_set : {X : Type 0} (m : List X) (n size : ℕ) (x : X) → size ≡ min 4096 (length m) → size ≡ min 4096 (length (set m n x))
+size_set m n size x is = rw (length-set m n x) is
+
 -- A bank that may not.
 module _ (cells : List Cell) (limit n : ℕ) (w : Word) (d : Change) (fault : BankFault) (is : w ≡ word_in d) (refused : Err fault ≡ writable limit cells n w) where
   pub refused_answer : Err fault ≡ change_taken limit cells n d
@@ -144,4 +148,4 @@ module _ (cells : List Cell) (limit n : ℕ) (w : Word) (d : Change) (fault : Ba
   refused_after = (put_refused (λ _. with_change d) limit cells n (word_in d) fault (rw is at refused)).1
 
 -- What the methods of a bank use.
-pub ruleset of_memory = (shown_length, within_shown, asked_shown, may_write, may_fit, may_keep, kept_shown, change_after, change_stored, change_packed, whole_after, whole_packed, refused_answer, refused_after)
+pub ruleset of_memory = (shown_length, within_shown, asked_shown, may_write, may_fit, may_keep, kept_shown, change_after, change_stored, change_packed, whole_after, whole_packed, size_set, refused_answer, refused_after)

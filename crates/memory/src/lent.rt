@@ -11,6 +11,9 @@ use bank::{Bank, BankFault, Cell, Change, MOST_CELLS};
 #[derive(Drop)]
 pub struct LentBank<'a, E: Element> {
     memory: &'a mut [E],
+    // Beside the memory, since it is asked for at each call.
+    size: u32,
+    ghost sized: { size ≡ min 4096 (length memory.now) },
     pub ghost packed: { Packed E.shows E.stores memory.now },
 }
 
@@ -29,7 +32,10 @@ impl<'a, E: Element> LentBank<'a, E> {
     {
         let n = memory.len().min(MOST_CELLS as usize);
         memory[..n].fill(E::blank());
-        LentBank { memory }
+        LentBank {
+            memory,
+            size: n as u32,
+        }
     }
 }
 
@@ -43,7 +49,7 @@ impl<'a, E: Element> Bank for LentBank<'a, E> {
 
     #[inline(always)]
     fn size(&self) -> u32 {
-        self.memory.len().min(MOST_CELLS as usize) as u32
+        self.size
     }
 
     #[inline(always)]
