@@ -1,5 +1,5 @@
 // The lines of a plan, served by a store, and the text of the replies.
-ghost use Rattle.std.specs.Prelude.{◌≡◌, ◌++◌, OnOk, string_bytes};
+ghost use Rattle.std.specs.Prelude.{◌≡◌, ◌+◌, ◌<◌, [], ◌∷◌, ◌++◌, OnOk, string_bytes, decimal};
 ghost use Rattle.replies.specs.Replies.{line_of, text_of_replies};
 ghost use Rattle.replies.specs.Requests.{call_of};
 ghost use Rattle.replies.specs.Serving.{zone_state, floor_in, listed, served, replies_from};
@@ -25,8 +25,36 @@ pub fn push_line(text: &mut String, reply: Reply) -> Result<(), AllocError>
         Reply::Cell => text.push_str("cell\n"),
         Reply::Same(true) => text.push_str("yes\n"),
         Reply::Same(false) => text.push_str("no\n"),
+        Reply::Worked(work) => {
+            text.push_str("ok ")?;
+            push_number(text, work)?;
+            text.push_str("\n")
+        }
         _ => push_formatted(text, reply),
     }
+}
+
+// The work of a turn has two digits at most.
+#[tactic(auto, using(crate::proofs::Numbers::one_digit))]
+fn push_number(text: &mut String, n: u32) -> Result<(), AllocError>
+    ensures { OnOk result (string_bytes text.new ≡ string_bytes text.old ++ decimal n) }
+{
+    match n {
+        0..=9 => push_digit(text, n),
+        10..=99 => {
+            push_digit(text, n / 10)?;
+            push_digit(text, n % 10)
+        }
+        _ => write!(text, "{n}").map_err(|_| AllocError),
+    }
+}
+
+#[inline(always)]
+fn push_digit(text: &mut String, d: u32) -> Result<(), AllocError>
+    requires { d < 10 }
+    ensures { OnOk result (string_bytes text.new ≡ string_bytes text.old ++ (48 + d) ∷ []) }
+{
+    text.push(char::from(b'0' + d as u8))
 }
 
 #[inline(never)]
