@@ -150,22 +150,42 @@ sweeps-most limit zero g =
     ap (λ (j : ℕ). sweeps limit j g) none
 sweeps-most limit (suc k) g = most-if (ltb g.pool.sweeper (length g.cells)) limit k g refl (sweeps-most limit k)
 
--- A run of free cells, and the cell after it.
-pub sweeps-more : (limit limit' k r : ℕ) (g h : Ground) → 0 < k → r ≡ free_run g.cells g.pool.sweeper (k - 1) → limit' ≡ limit → h ≡ sweep limit (forward r g)
-    → sweeps limit' (k - (r + 1)) h ≡ sweeps limit k g
-sweeps-more limit limit' k r g h some run same e =
-    let f = run-few g.cells g.pool.sweeper (k - 1) in
-    let all : k ≡ free_run g.cells g.pool.sweeper (k - 1) + suc (k - (r + 1)) = omega arith in
-    let j : ℕ = k - (r + 1) in
-    ap₂ (λ (n : ℕ) (x : Ground). sweeps n j x) same e
-    ∙ ap (λ (i : ℕ). sweeps limit (suc j) (forward i g)) run
-    ∙ sym (run-sweeps limit (k - 1) (suc j) k g all)
+place-if : (b : Bool) (limit : ℕ) (g : Ground) → (sweep_if b limit g).pool.sweeper ≤ g.pool.sweeper + 1
+place-if true limit g =
+    let place = treat-sweeper (at g.cells g.pool.sweeper).mark (is_reserved (at g.cells g.pool.sweeper).cdr) limit g.pool.sweeper g in
+    omega arith
+place-if false limit g = omega arith
 
-pub left-after : (limit k r : ℕ) (g h : Ground) → 0 < k → k ≤ length g.cells - g.pool.sweeper → r ≡ free_run g.cells g.pool.sweeper (k - 1) → h ≡ sweep limit (forward r g)
-    → k - (r + 1) ≤ length h.cells - h.pool.sweeper
-left-after limit k r g h some fits run e =
-    let f = run-few g.cells g.pool.sweeper (k - 1) in
-    let one = sweep-left-any limit (forward r g) in
+pub sweep-place : (limit : ℕ) (g h : Ground) → h ≡ sweep limit g → h.pool.sweeper ≤ g.pool.sweeper + 1
+sweep-place limit g h e = rw e (place-if (ltb g.pool.sweeper (length g.cells)) limit g)
+
+-- A cell is swept, and a run of free cells after it goes by where it was free.
+run-after : (b : Bool) (limit j m : ℕ) (h : Ground) → j ≡ cond b (free_run h.cells h.pool.sweeper j) 0 + m
+    → sweeps limit m (forward (cond b (free_run h.cells h.pool.sweeper j) 0) h) ≡ sweeps limit j h
+run-after true limit j m h all = sym (run-sweeps limit j m j h all)
+run-after false limit j m h all =
+    let same : m ≡ j = omega arith in
+    ap₂ (λ (i : ℕ) (x : Ground). sweeps limit i x) same (forward-none h)
+
+pub after-few : (b : Bool) (cells : List Cell) (n k : ℕ) → cond b (free_run cells n k) 0 ≤ k
+after-few true cells n k = run-few cells n k
+after-few false cells n k = omega arith
+
+pub sweeps-more : (limit limit' k r : ℕ) (b : Bool) (g h : Ground) → 0 < k → limit' ≡ limit → h ≡ sweep limit g
+    → r ≡ cond b (free_run h.cells h.pool.sweeper (k - 1)) 0 → sweeps limit' (k - (r + 1)) (forward r h) ≡ sweeps limit k g
+sweeps-more limit limit' k r b g h some same e run =
+    let few = after-few b h.cells h.pool.sweeper (k - 1) in
+    let all : k - 1 ≡ cond b (free_run h.cells h.pool.sweeper (k - 1)) 0 + (k - (r + 1)) = omega arith in
+    let more : k ≡ suc (k - 1) = omega arith in
+    ap₂ (λ (n i : ℕ). sweeps n (k - (r + 1)) (forward i h)) same run
+    ∙ run-after b limit (k - 1) (k - (r + 1)) h all
+    ∙ ap (sweeps limit (k - 1)) e
+    ∙ sym (ap (λ (i : ℕ). sweeps limit i g) more)
+
+pub left-after : (limit k r : ℕ) (g h : Ground) → 0 < k → k ≤ length g.cells - g.pool.sweeper → r ≤ k - 1 → h ≡ sweep limit g
+    → k - (r + 1) ≤ length h.cells - (h.pool.sweeper + r)
+left-after limit k r g h some fits few e =
+    let one = sweep-left-any limit g in
     let len = ap (λ (x : Ground). length x.cells - x.pool.sweeper) e in
     omega arith
 

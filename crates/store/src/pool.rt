@@ -1,5 +1,5 @@
 // The free list, and where the sweep stands: sweeping. The bank is a parameter of each step, since the heap owns it.
-ghost use Rattle.std.specs.Prelude.{◌≡◌, ◌-◌, min, false, length, slice_index_or};
+ghost use Rattle.std.specs.Prelude.{◌≡◌, ◌-◌, min, false, length, if◌then◌else◌, slice_index_or};
 ghost use Rattle.bank.specs.Words.{blank};
 ghost use Rattle.collector.specs.Turns.{is_reserved, treat, sweep, sweeps};
 ghost use Rattle.store.specs.Meaning.{ground_of};
@@ -36,9 +36,10 @@ impl Pool {
         }
     }
 
-    // Takes the mark off cell n, leaves it where it is free, and releases it otherwise.
+    // Takes the mark off cell n, leaves it where it is free, and releases it otherwise. Whether it was left: a hint, of which
+    // nothing is promised.
     #[inline(always)]
-    fn treat<B: Bank>(&mut self, bank: &mut B, n: u32, cell: Cell)
+    fn treat<B: Bank>(&mut self, bank: &mut B, n: u32, cell: Cell) -> bool
         requires read { cell ≡ slice_index_or (B.cells bank.old) n blank }
         ensures ground { ground_of B.cells bank.new self.new ≡ treat cell.mark (is_reserved cell.cdr) (B.limit bank.old) n (ground_of B.cells bank.old self.old) }
         ensures limit { B.limit bank.new ≡ B.limit bank.old }
@@ -46,24 +47,29 @@ impl Pool {
         match (cell.mark, cell.cdr) {
             (true, _) => {
                 let _ = bank.set(n, Change::Mark(false));
+                false
             }
-            (false, Word::Reserved) => {}
-            (false, _) => self.release(bank, n),
+            (false, Word::Reserved) => true,
+            (false, _) => {
+                self.release(bank, n);
+                false
+            }
         }
     }
 
-    // Sweeps the cell at the sweeper; none past the last.
+    // Sweeps the cell at the sweeper, none past the last; the hint of `treat`.
     #[inline(always)]
-    fn sweep<B: Bank>(&mut self, bank: &mut B)
+    fn sweep<B: Bank>(&mut self, bank: &mut B) -> bool
         ensures ground { ground_of B.cells bank.new self.new ≡ sweep (B.limit bank.old) (ground_of B.cells bank.old self.old) }
         ensures limit { B.limit bank.new ≡ B.limit bank.old }
     {
         let n = self.sweeper;
         let Ok(cell) = bank.cell(n) else {
-            return;
+            return false;
         };
-        self.treat(bank, n, cell);
+        let left = self.treat(bank, n, cell);
         self.sweeper += 1;
+        left
     }
 
     // The share of a sweep turn: up to k cells. The count of cells swept.
@@ -79,10 +85,9 @@ impl Pool {
         let mut pool = *self;
         let mut left = swept;
         while left > 0 {
-            // Nothing is written while free cells are passed, so what the bank stands on is read once for all of them.
-            let run = free_run(bank, pool.sweeper, left - 1);
+            let was_free = pool.sweep(bank);
+            let run = run_after(bank, was_free, pool.sweeper, left - 1);
             pool.sweeper += run;
-            pool.sweep(bank);
             left -= run + 1;
         }
         *self = pool;
@@ -95,10 +100,19 @@ impl Pool {
 fn is_passed(cell: Cell) -> bool
     ensures { result ≡ is_passed cell }
 {
-    match (cell.mark, cell.cdr) {
-        (false, Word::Reserved) => true,
+    match (cell.cdr, cell.mark) {
+        (Word::Reserved, false) => true,
         _ => false,
     }
+}
+
+// How many cells go by at once after one that was swept: those that are free, where it was. Nothing is written meanwhile, so what
+// the bank stands on is read once for all of them.
+#[inline(always)]
+fn run_after<B: Bank>(bank: &B, was_free: bool, n: u32, most: u32) -> u32
+    ensures { result ≡ (if was_free then free_run (B.cells bank.now) n most else 0) }
+{
+    if was_free { free_run(bank, n, most) } else { 0 }
 }
 
 // How many of the cells from n on, up to `most`, a sweep leaves as they are.
