@@ -3,8 +3,8 @@
 
     python3 tools/rules/cases.py | diff - crates/cases/stdout
 
-The answers come from the model of the rules beside this file. The groups are those of
-crates/cases/src, in the same order.
+The answers come from the model of the rules beside this file. The groups are worked through in the
+order of crates/cases/src/main.rt.
 """
 
 from atoms import CLEAR, Aspect, Aspects, Zone, Zones
@@ -574,7 +574,7 @@ def print_signals(store, title):
     print(f"  {title}: {', '.join(seen)}; {place(store)}")
 
 
-# layered: each pile of layers two deep under a store, beside a store over a record bank alone.
+# layered: a store over each pile of layers two deep.
 
 # A round of calls: a list of five is made, and changed at both ends.
 ROUND = (
@@ -585,14 +585,9 @@ ROUNDS = 6
 
 
 def layered():
-    """The answers over a record bank alone, and then the nine piles."""
-    print("layered: a store of 20 cells over a record bank alone")
-    store = zone_store(record(20), 6, 3, 3)
-    for _ in range(ROUNDS):
-        answers = [answer_text(answer) for answer in run(store, calls_in(ROUND))]
-        print(f"  {', '.join(answers)}, {place(store)}")
-    print("layered: each pile beside it")
-    for name, pile in (
+    """The same steps over a record bank alone and over the nine piles."""
+    for name, bank in (
+        ("a record bank alone", record(20)),
         ("window over window", window(window(packed(30), 5, 30), 3, 20)),
         ("window over join", window(join(record(16), packed(30)), 8, 20)),
         ("window over hold", window(hold(record(30)), 4, 20)),
@@ -603,22 +598,14 @@ def layered():
         ("hold over join", hold(join(packed(9), record(11)))),
         ("hold over hold", hold(hold(packed(20)))),
     ):
-        compare(name, record(20), pile)
-
-
-def compare(name, alone, pile):
-    """How many calls get the same answer and leave both collectors alike; the cells at the end."""
-    first = zone_store(alone, 6, 3, 3)
-    second = zone_store(pile, 6, 3, 3)
-    same = 0
-    for call in calls_in(ROUND) * ROUNDS:
-        answers = [answer_text(store.apply(call)) for store in (first, second)]
-        same += answers[0] == answers[1] and place(first) == place(second)
-    alike = f"{same} of 90 calls alike, {place(second)}"
-    cells = sum(one == other for one, other in zip(alone.cells(), pile.cells()))
-    (wide,) = calls_in("load 0 4096 1")
-    answer = answer_text(second.apply(wide))
-    print(f"  {name}: {alike}, {cells} of 20 cells alike; {wide}: {answer}")
+        # Last comes a code that no packed word can have.
+        example(
+            f"layered: {name}",
+            zone_store(bank, 6, 3, 3),
+            times(ROUNDS, ROUND),
+            range(20),
+            "load 0 4096 1",
+        )
 
 
 # plans: plans at the edges of their format. In these tables a line end is written as /.

@@ -1,153 +1,206 @@
-// Each pile of layers two deep under a store, beside a store over a record bank alone.
-use crate::text::{Place, zone, zone_store};
-use atoms::Zone;
+// A store over each pile of layers two deep.
+use crate::stores::under;
+use crate::tables::LAYERED;
 use bank::{Bank, Cell};
-use listcalls::Call;
 use layers::{Hold, Join, Window};
 use memory::{PackedBank, RecordBank};
-use replies::Reply;
-use store::ListStore;
+use pacing::floor::FloorRule;
+use std::io;
 
-const ROUNDS: u32 = 6;
-
-pub fn work(rt: &HostRuntime) -> anyhow::Result<()> {
-    let mut alone = [Cell::BLANK; 20];
-    answers(rt, RecordBank::new(&mut alone))?;
-    println!(rt; "layered: each pile beside it")?;
-    windows(rt, &mut alone)?;
-    joins(rt, &mut alone)?;
-    holds(rt, &mut alone)
+#[derive(Clone, Copy)]
+enum Upper {
+    Window,
+    Join,
+    Hold,
 }
 
-// A round of calls: a list of five is made, and changed at both ends.
-fn round() -> anyhow::Result<[Call<Zone>; 15]> {
-    Ok([
-        Call::Load(1, zone(120, 80)?),
-        Call::Load(2, zone(300, 40)?),
-        Call::Clear(0),
-        Call::Cons(0, 1, 0),
-        Call::Cons(0, 1, 0),
-        Call::Cons(0, 1, 0),
-        Call::Cons(0, 1, 0),
-        Call::Cons(0, 1, 0),
-        Call::Cons(3, 0, 15),
-        Call::Rplaca(3, 2),
-        Call::Rplacd(0, 2),
-        Call::Car(4, 3),
-        Call::Cdr(5, 0),
-        Call::Look(4),
-        Call::Same(5, 2),
-    ])
+#[derive(Clone, Copy)]
+enum Lower {
+    Window,
+    Join,
+    // A join with the second memory first.
+    Reversed,
+    Hold,
 }
 
-fn answers<B: Bank + Drop>(rt: &HostRuntime, bank: B) -> anyhow::Result<()> {
-    println!(rt; "layered: a store of 20 cells over a record bank alone")?;
-    let calls = round()?;
-    let mut store = zone_store(bank, 6, 3, 3)?;
-    for _ in 0..ROUNDS {
-        print!(rt; " ")?;
-        for call in &calls {
-            print!(rt; " {},", Reply::from(&store.apply(call)))?;
-        }
-        println!(rt; " {}", Place::of(&store))?;
+// The memories below a pile: packed words and cells, or cells alone.
+#[derive(Clone, Copy)]
+enum Bottom {
+    Packed,
+    Record,
+}
+
+// Two layers, the sizes of the memories below, and where the windows begin and end: the upper one, and those over the first memory
+// and over the second. The third memory stands beside a lower join.
+#[derive(Clone, Copy)]
+struct Pile {
+    title: &'static str,
+    upper: Upper,
+    lower: Lower,
+    bottom: Bottom,
+    sizes: [usize; 3],
+    windows: [(u32, u32); 3],
+}
+
+const PILES: &[Pile] = &[
+    Pile {
+        title: "layered: window over window",
+        upper: Upper::Window,
+        lower: Lower::Window,
+        bottom: Bottom::Packed,
+        sizes: [30, 0, 0],
+        windows: [(3, 20), (5, 30), (0, 0)],
+    },
+    Pile {
+        title: "layered: window over join",
+        upper: Upper::Window,
+        lower: Lower::Reversed,
+        bottom: Bottom::Packed,
+        sizes: [30, 16, 0],
+        windows: [(8, 20), (0, 0), (0, 0)],
+    },
+    Pile {
+        title: "layered: window over hold",
+        upper: Upper::Window,
+        lower: Lower::Hold,
+        bottom: Bottom::Record,
+        sizes: [30, 0, 0],
+        windows: [(4, 20), (0, 0), (0, 0)],
+    },
+    Pile {
+        title: "layered: join over windows",
+        upper: Upper::Join,
+        lower: Lower::Window,
+        bottom: Bottom::Packed,
+        sizes: [10, 12, 0],
+        windows: [(0, 0), (0, 9), (1, 20)],
+    },
+    Pile {
+        title: "layered: join over join",
+        upper: Upper::Join,
+        lower: Lower::Join,
+        bottom: Bottom::Record,
+        sizes: [12, 0, 8],
+        windows: [(0, 0); 3],
+    },
+    Pile {
+        title: "layered: join over holds",
+        upper: Upper::Join,
+        lower: Lower::Hold,
+        bottom: Bottom::Packed,
+        sizes: [10, 10, 0],
+        windows: [(0, 0); 3],
+    },
+    Pile {
+        title: "layered: hold over window",
+        upper: Upper::Hold,
+        lower: Lower::Window,
+        bottom: Bottom::Record,
+        sizes: [30, 0, 0],
+        windows: [(0, 0), (7, 20), (0, 0)],
+    },
+    Pile {
+        title: "layered: hold over join",
+        upper: Upper::Hold,
+        lower: Lower::Join,
+        bottom: Bottom::Packed,
+        sizes: [9, 11, 0],
+        windows: [(0, 0); 3],
+    },
+    Pile {
+        title: "layered: hold over hold",
+        upper: Upper::Hold,
+        lower: Lower::Hold,
+        bottom: Bottom::Packed,
+        sizes: [20, 0, 0],
+        windows: [(0, 0); 3],
+    },
+];
+
+pub fn work(rt: &HostRuntime) -> io::Result<()> {
+    for pile in PILES {
+        one(rt, *pile)?;
     }
     Ok(())
 }
 
-// How many of the calls get the same answer and leave both collectors at the same place; and the cells at the end.
-fn compare<A: Bank + Drop, B: Bank + Drop>(
-    rt: &HostRuntime,
-    name: &str,
-    alone: A,
-    pile: B,
-) -> anyhow::Result<()> {
-    let calls = round()?;
-    let mut first = zone_store(alone, 6, 3, 3)?;
-    let mut second = zone_store(pile, 6, 3, 3)?;
-    let mut made = 0_u32;
-    let mut same = 0_u32;
-    for _ in 0..ROUNDS {
-        for call in &calls {
-            made = made.saturating_add(1);
-            let answer = first.apply(call);
-            if second.apply(call) == answer && Place::of(&first) == Place::of(&second) {
-                same = same.saturating_add(1);
-            }
-        }
+fn one(rt: &HostRuntime, pile: Pile) -> io::Result<()> {
+    println!(rt; "{}", pile.title)?;
+    match pile.bottom {
+        Bottom::Packed => over_packed(rt, pile),
+        Bottom::Record => over_records(rt, pile),
     }
-    print!(rt;
-        "  {name}: {same} of {made} calls alike, {}",
-        Place::of(&second)
-    )?;
-    let wide = Reply::from(&second.apply(&Call::Load(0, zone(4096, 1)?)));
-    let (alone, _, _) = first.into_parts();
-    let (pile, _, _) = second.into_parts();
-    println!(rt;
-        ", {} of {} cells alike; load 0 4096 1: {wide}",
-        alike(&alone, &pile),
-        alone.size()
-    )?;
-    Ok(())
 }
 
-fn alike<A: Bank, B: Bank>(first: &A, second: &B) -> u32 {
-    let mut alike = 0_u32;
-    for n in 0..first.size() {
-        if first.cell(n) == second.cell(n) {
-            alike = alike.saturating_add(1);
-        }
-    }
-    alike
+fn over_packed(rt: &HostRuntime, pile: Pile) -> io::Result<()> {
+    let [first, _, _] = pile.sizes;
+    let mut words = vec![in rt.alloc(); 0_u64; first]?;
+    over(rt, pile, PackedBank::new(words.as_mut_slice()))
 }
 
-fn windows(rt: &HostRuntime, alone: &mut [Cell]) -> anyhow::Result<()> {
-    let mut words = [0u64; 30];
-    let mut cells = [Cell::BLANK; 16];
-    let pile = Window::new(Window::new(PackedBank::new(&mut words), 5, 30), 3, 20);
-    compare(rt, "window over window", RecordBank::new(alone), pile)?;
-    let join = Join::new(RecordBank::new(&mut cells), PackedBank::new(&mut words));
-    let pile = Window::new(join, 8, 20);
-    compare(rt, "window over join", RecordBank::new(alone), pile)?;
-    let mut many = [Cell::BLANK; 30];
-    let pile = Window::new(Hold::new(RecordBank::new(&mut many)), 4, 20);
-    compare(rt, "window over hold", RecordBank::new(alone), pile)
+fn over_records(rt: &HostRuntime, pile: Pile) -> io::Result<()> {
+    let [first, _, _] = pile.sizes;
+    let mut cells = vec![in rt.alloc(); Cell::BLANK; first]?;
+    over(rt, pile, RecordBank::new(cells.as_mut_slice()))
 }
 
-fn joins(rt: &HostRuntime, alone: &mut [Cell]) -> anyhow::Result<()> {
-    let mut words = [0u64; 10];
-    let mut cells = [Cell::BLANK; 12];
-    let mut more = [Cell::BLANK; 8];
-    let pile = Join::new(
-        Window::new(PackedBank::new(&mut words), 0, 9),
-        Window::new(RecordBank::new(&mut cells), 1, 20),
-    );
-    compare(rt, "join over windows", RecordBank::new(alone), pile)?;
-    let mut few = [Cell::BLANK; 0];
-    let inner = Join::new(RecordBank::new(&mut cells), RecordBank::new(&mut few));
-    let pile = Join::new(inner, RecordBank::new(&mut more));
-    compare(rt, "join over join", RecordBank::new(alone), pile)?;
-    let mut ten = [Cell::BLANK; 10];
-    let pile = Join::new(
-        Hold::new(PackedBank::new(&mut words)),
-        Hold::new(RecordBank::new(&mut ten)),
-    );
-    compare(rt, "join over holds", RecordBank::new(alone), pile)
-}
-
-fn holds(rt: &HostRuntime, alone: &mut [Cell]) -> anyhow::Result<()> {
-    let mut cells = [Cell::BLANK; 30];
-    let mut words = [0u64; 20];
-    let pile = Hold::new(Window::new(RecordBank::new(&mut cells), 7, 20));
-    compare(rt, "hold over window", RecordBank::new(alone), pile)?;
-    let mut few = [0u64; 9];
-    let mut eleven = [Cell::BLANK; 11];
-    let join = Join::new(PackedBank::new(&mut few), RecordBank::new(&mut eleven));
-    compare(
+fn over<A: Bank + Drop>(rt: &HostRuntime, pile: Pile, first: A) -> io::Result<()> {
+    let [_, second, third] = pile.sizes;
+    let mut cells = vec![in rt.alloc(); Cell::BLANK; second]?;
+    let mut more = vec![in rt.alloc(); Cell::BLANK; third]?;
+    let second = RecordBank::new(cells.as_mut_slice());
+    below(
         rt,
-        "hold over join",
-        RecordBank::new(alone),
-        Hold::new(join),
-    )?;
-    let pile = Hold::new(Hold::new(PackedBank::new(&mut words)));
-    compare(rt, "hold over hold", RecordBank::new(alone), pile)
+        pile,
+        first,
+        second,
+        RecordBank::new(more.as_mut_slice()),
+    )
+}
+
+fn below<A: Bank + Drop, B: Bank + Drop, C: Bank + Drop>(
+    rt: &HostRuntime,
+    pile: Pile,
+    first: A,
+    second: B,
+    third: C,
+) -> io::Result<()> {
+    let [_, (a, m), (b, n)] = pile.windows;
+    match pile.lower {
+        Lower::Window => above(
+            rt,
+            pile,
+            Window::new(first, a, m),
+            Window::new(second, b, n),
+        ),
+        Lower::Join => above(rt, pile, Join::new(first, second), third),
+        Lower::Reversed => above(rt, pile, Join::new(second, first), third),
+        Lower::Hold => above(rt, pile, Hold::new(first), Hold::new(second)),
+    }
+}
+
+fn above<A: Bank + Drop, B: Bank + Drop>(
+    rt: &HostRuntime,
+    pile: Pile,
+    first: A,
+    second: B,
+) -> io::Result<()> {
+    let [(a, m), _, _] = pile.windows;
+    match pile.upper {
+        Upper::Window => under(
+            rt,
+            Window::new(first, a, m),
+            FloorRule::new(6),
+            (3, 3),
+            LAYERED,
+        ),
+        Upper::Join => under(
+            rt,
+            Join::new(first, second),
+            FloorRule::new(6),
+            (3, 3),
+            LAYERED,
+        ),
+        Upper::Hold => under(rt, Hold::new(first), FloorRule::new(6), (3, 3), LAYERED),
+    }
 }

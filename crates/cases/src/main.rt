@@ -1,29 +1,45 @@
 // cases: works through the examples of the rules, and prints what each call answers and what the store then holds.
 #![tactic(auto)]
 
+mod banks;
 mod layered;
-mod looks;
-mod marking;
 mod paces;
+mod pairs;
 mod plans;
-mod refusals;
-mod replacing;
 mod runs;
 mod signals;
-mod sizes;
-mod sweeping;
+mod stores;
+mod tables;
 mod text;
 
-fn main(rt: HostRuntime) -> anyhow::Result<()> {
-    refusals::work(&rt)?;
-    looks::work(&rt)?;
-    sizes::work(&rt)?;
-    replacing::work(&rt)?;
-    marking::work(&rt)?;
-    sweeping::work(&rt)?;
-    paces::work(&rt)?;
-    signals::work(&rt)?;
-    layered::work(&rt)?;
-    plans::work(&rt)?;
-    runs::work(&rt)
+use std::io;
+
+fn main(rt: HostRuntime) -> io::Result<()> {
+    refusals(&rt)?;
+    stores::work(&rt, tables::STORES)?;
+    paced(&rt)?;
+    others(&rt)
+}
+
+fn refusals(rt: &HostRuntime) -> io::Result<()> {
+    stores::work(rt, tables::REFUSALS)?;
+    banks::work(rt)?;
+    pairs::work(rt)
+}
+
+fn paced(rt: &HostRuntime) -> io::Result<()> {
+    paces::work(rt)?;
+    stores::work(rt, tables::PACED)
+}
+
+fn others(rt: &HostRuntime) -> io::Result<()> {
+    signals::work(rt)?;
+    piles(rt)?;
+    plans::work(rt)?;
+    runs::work(rt)
+}
+
+fn piles(rt: &HostRuntime) -> io::Result<()> {
+    stores::work(rt, tables::ALONE)?;
+    layered::work(rt)
 }

@@ -1,7 +1,7 @@
 // Plans at the edges of their format.
 use replies::answer_plan;
 use std::alloc::{AllocError, Global};
-use std::fmt;
+use std::{fmt, io};
 
 #[derive(Clone, Copy)]
 struct PlanText<'a>(&'a [u8]);
@@ -9,18 +9,27 @@ struct PlanText<'a>(&'a [u8]);
 impl fmt::Display for PlanText<'_> {
     fn fmt<W: fmt::Write>(&self, f: &mut fmt::Formatter<W>) -> fmt::Result {
         for byte in self.0 {
-            match *byte {
-                b'\n' => f.write_str("/")?,
-                b' '..=b'~' => write!(f, "{}", char::from(*byte))?,
-                other => write!(f, "<{other}>")?,
-            }
+            write!(f, "{}", ByteText(*byte))?;
         }
         Ok(())
     }
 }
 
-// Where a plan or a line of it ends.
-const ENDS: [&[u8]; 11] = [
+#[derive(Clone, Copy)]
+struct ByteText(u8);
+
+impl fmt::Display for ByteText {
+    fn fmt<W: fmt::Write>(&self, f: &mut fmt::Formatter<W>) -> fmt::Result {
+        match self.0 {
+            b'\n' => f.write_str("/"),
+            b' '..=b'~' => f.write_char(char::from(self.0)),
+            other => write!(f, "<{other}>"),
+        }
+    }
+}
+
+const PLANS: &[&[u8]] = &[
+    // Where a plan or a line of it ends.
     b"",
     b"\n",
     b"s",
@@ -32,10 +41,7 @@ const ENDS: [&[u8]; 11] = [
     b"store 3 1 1 1\nlook 0\n\n",
     b"store 3 1 1 1\nlook 0\n ",
     b"\nstore 3 1 1 1\n",
-];
-
-// How numbers are written, and how many there are.
-const NUMBERS: [&[u8]; 14] = [
+    // How numbers are written, and how many there are.
     b"store 03 1 1 1\n",
     b"store 00 1 1 0\n",
     b"store 0 1 1 0\n",
@@ -50,10 +56,7 @@ const NUMBERS: [&[u8]; 14] = [
     b"store 3 1 1 1\ncons 0 1\n",
     b"store 3 1 1 1\ncons 0 1 2 3\n",
     b"store 3 1 1 1\nsame 0 0x\n",
-];
-
-// What stands between the words of a line.
-const SEPARATORS: [&[u8]; 15] = [
+    // What stands between the words of a line.
     b"store  3 1 1 1\n",
     b"store 3  1 1 1\n",
     b"store\t3 1 1 1\n",
@@ -69,10 +72,7 @@ const SEPARATORS: [&[u8]; 15] = [
     b"store 3 1 1 1\nlook \xb2\n",
     b"store 3 1 1 1\nlook 0\x00\n",
     b"store 3 1 1 1\nlook\xa00\n",
-];
-
-// Names cut short, and longer than any.
-const NAMES: [&[u8]; 16] = [
+    // Names cut short, and longer than any.
     b"stor 3 1 1 1\n",
     b"stores 3 1 1 1\n",
     b"Store 3 1 1 1\n",
@@ -89,10 +89,7 @@ const NAMES: [&[u8]; 16] = [
     b"store 3 1 1 1\nlock 0\n",
     b"store 3 1 1 1\nxlook 0\n",
     b"store 3 1 1 1\n# note\n",
-];
-
-// The first line.
-const OPENINGS: [&[u8]; 15] = [
+    // The first line.
     b"store 3 1 1 1\nstore 3 1 1 1\n",
     b"store 3 1 1 1\nlook 0\nstore 3 1 1 1\n",
     b"load 1 120 80\n",
@@ -108,10 +105,7 @@ const OPENINGS: [&[u8]; 15] = [
     b"store 4096 64 2 4095\ncons 0 1 1\ncons 0 1 1\ncons 0 1 1\ncons 0 1 1\n",
     b"store 4097 64 2 4095\ncons 0 1 1\ncons 0 1 1\ncons 0 1 1\ncons 0 1 1\n",
     b"store 99999 64 2 4095\ncons 0 1 1\ncons 0 1 1\ncons 0 1 1\ncons 0 1 1\n",
-];
-
-// What calls are answered: a load in the order of its refusals, a plan with a refused cons, and what stands before a fault.
-const CALLS: [&[u8]; 5] = [
+    // What calls are answered: a load in the order of its refusals, a plan with a refused cons, and what stands before a fault.
     b"store 3 1 1 1\nload 16 65535 2\nload 16 4096 1\nload 0 4096 1\nload 0 4095 1\nlook 0\n",
     b"store 3 1 1 1\nload 99999 0 0\nload 99999 99999 99999\nload 0 99999 1\nload 0 0 65536\n",
     b"store 3 1 1 1\nload 1 120 80\ncons 0 1 2\ncons 0 1 2\ncons 3 0 0\ncons 4 0 0\ncons 4 0 0\nlook 1\ncar 5 4\nsame 5 0\ncar 5 1\n",
@@ -119,34 +113,40 @@ const CALLS: [&[u8]; 5] = [
     b"store 1 1 1 0\ncons 0 1 1\ncons 1 0 0\ncons 1 0 0\ncons 1 0 0\nlook 1\nclear 0\ncons 1 0 0\ncons 1 0 0\ncons 1 0 0\nlook 1\nlook",
 ];
 
-pub fn work(rt: &HostRuntime) -> anyhow::Result<()> {
+// The last lines of the longest plans.
+const LAST: &[&str] = &[
+    "look 15\n",
+    "clear 15\n",
+    "look 150",
+    "look 1500",
+    "look 0x\n",
+];
+
+pub fn work(rt: &HostRuntime) -> io::Result<()> {
     println!(rt;
         "plans: a line end is written as /, and a byte that does not print by its number"
     )?;
-    answer_each(rt, &ENDS)?;
-    answer_each(rt, &NUMBERS)?;
-    answer_each(rt, &SEPARATORS)?;
-    answer_each(rt, &NAMES)?;
-    answer_each(rt, &OPENINGS)?;
-    answer_each(rt, &CALLS)?;
-    println!(rt; "plans: the longest")?;
-    long_plan(rt, "look 15\n")?;
-    long_plan(rt, "clear 15\n")?;
-    long_plan(rt, "look 150")?;
-    long_plan(rt, "look 1500")?;
-    long_plan(rt, "look 0x\n")
+    for plan in PLANS {
+        answer(rt, plan)?;
+    }
+    longest(rt)
 }
 
-fn answer_each(rt: &HostRuntime, plans: &[&[u8]]) -> anyhow::Result<()> {
-    for plan in plans {
-        let text = answer_plan(rt.alloc(), plan)?;
-        println!(rt;
-            "  \"{}\" gives \"{}\"",
-            PlanText(plan),
-            PlanText(text.as_bytes())
-        )?;
+fn longest(rt: &HostRuntime) -> io::Result<()> {
+    println!(rt; "plans: the longest")?;
+    for last in LAST {
+        long_plan(rt, last)?;
     }
     Ok(())
+}
+
+fn answer(rt: &HostRuntime, plan: &[u8]) -> io::Result<()> {
+    let text = answer_plan(rt.alloc(), plan)?;
+    print_answers(rt, plan, text.as_bytes())
+}
+
+fn print_answers(rt: &HostRuntime, plan: &[u8], answers: &[u8]) -> io::Result<()> {
+    println!(rt; "  \"{}\" gives \"{}\"", PlanText(plan), PlanText(answers))
 }
 
 // A plan of 32,760 bytes, eight less than the most, and a last line.
@@ -161,16 +161,18 @@ fn plan_ending(heap: Global, last: &str) -> Result<String, AllocError> {
     Ok(text)
 }
 
-fn long_plan(rt: &HostRuntime, last: &str) -> anyhow::Result<()> {
+fn long_plan(rt: &HostRuntime, last: &str) -> io::Result<()> {
     let plan = plan_ending(rt.alloc(), last)?;
     let text = answer_plan(rt.alloc(), plan.as_bytes())?;
-    let lines = text.as_str().lines().count();
-    let end = text.as_str().lines().last().unwrap_or("");
+    print_long(rt, plan.len(), last, text.as_str())
+}
+
+fn print_long(rt: &HostRuntime, bytes: usize, last: &str, text: &str) -> io::Result<()> {
+    let lines = text.lines().count();
+    let end = text.lines().last().unwrap_or("");
     println!(rt;
-        "  {} bytes, the last line \"{}\": lines of answers {lines}, bytes {}, the last \"{end}\"",
-        plan.len(),
+        "  {bytes} bytes, the last line \"{}\": lines of answers {lines}, bytes {}, the last \"{end}\"",
         PlanText(last.as_bytes()),
         text.len()
-    )?;
-    Ok(())
+    )
 }

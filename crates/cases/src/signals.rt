@@ -1,44 +1,43 @@
 // Block signals: aspects in lists, in a store over a pile of layers under the paced rule.
-use crate::text::{Place, effort, told};
+use crate::text::{Place, effort, unasked};
 use atoms::Kind;
 use atoms::aspect::{Aspect, Seconds, Train};
 use atoms::aspects::Aspects;
 use bank::{Bank, Cell};
-use listcalls::{Seen, StoreFault};
+use listcalls::{Call, Seen};
 use layers::{Hold, Join, Window};
 use memory::{PackedBank, RecordBank};
 use pacing::paced::PacedRule;
-use std::fmt;
+use std::{fmt, io};
 use store::{ListStore, Store};
 
 #[derive(Clone, Copy)]
-struct AspectText(Aspect);
+struct AspectText(Option<Aspect>);
 
 impl fmt::Display for AspectText {
     fn fmt<W: fmt::Write>(&self, f: &mut fmt::Formatter<W>) -> fmt::Result {
         match self.0 {
-            Aspect::Clear => f.write_str("clear"),
-            Aspect::Hold(seconds) => write!(f, "hold {}", seconds.get()),
-            Aspect::Occupied(train) => write!(f, "occupied {}", train.get()),
+            None => f.write_str("no value"),
+            Some(Aspect::Clear) => f.write_str("clear"),
+            Some(Aspect::Hold(seconds)) => write!(f, "hold {}", seconds.get()),
+            Some(Aspect::Occupied(train)) => write!(f, "occupied {}", train.get()),
         }
     }
 }
 
-fn refusal(fault: StoreFault) -> anyhow::Error {
-    told(fault.into())
-}
+const CODES: &[u32] = &[0, 1, 255, 256, 511, 512, 767, 768, u32::MAX];
 
-pub fn work(rt: &HostRuntime) -> anyhow::Result<()> {
-    codes(rt)?;
-    let mut cells = [Cell::BLANK; 10];
-    let mut words = [0u64; 16];
-    let window = Window::new(RecordBank::new(&mut cells), 1, 8);
-    let hold = Hold::new(PackedBank::new(&mut words));
-    train(rt, Join::new(window, hold))
-}
-
-fn codes(rt: &HostRuntime) -> anyhow::Result<()> {
+pub fn work(rt: &HostRuntime) -> io::Result<()> {
     println!(rt; "signals: codes")?;
+    values(rt)?;
+    codes(rt)?;
+    println!(rt; "signals: a train over four blocks")?;
+    let mut cells = [Cell::BLANK; 10];
+    let mut words = [0_u64; 16];
+    train(rt, RecordBank::new(&mut cells), PackedBank::new(&mut words))
+}
+
+fn values(rt: &HostRuntime) -> io::Result<()> {
     let aspects = [
         Aspect::Clear,
         Aspect::Hold(Seconds::new(0)),
@@ -47,13 +46,41 @@ fn codes(rt: &HostRuntime) -> anyhow::Result<()> {
         Aspect::Occupied(Train::new(255)),
     ];
     for aspect in aspects {
-        println!(rt; "  {}: code {}", AspectText(aspect), Aspects.code(&aspect))?;
+        println!(rt;
+            "  {}: code {}",
+            AspectText(Some(aspect)),
+            Aspects.code(&aspect)
+        )?;
     }
-    for code in [0, 1, 255, 256, 511, 512, 767, 768, u32::MAX] {
-        match Aspects.value(code) {
-            Some(aspect) => println!(rt; "  code {code}: {}", AspectText(aspect))?,
-            None => println!(rt; "  code {code}: no value")?,
-        }
+    Ok(())
+}
+
+fn codes(rt: &HostRuntime) -> io::Result<()> {
+    for code in CODES {
+        println!(rt; "  code {code}: {}", AspectText(Aspects.value(*code)))?;
+    }
+    Ok(())
+}
+
+fn train<A: Bank + Drop, B: Bank + Drop>(rt: &HostRuntime, record: A, packed: B) -> io::Result<()> {
+    over(rt, Join::new(Window::new(record, 1, 8), Hold::new(packed)))
+}
+
+// The starvation bound holds: at most 8 cells are reachable, and the store has 24, a floor of 7 and an effort of 4 and 4.
+fn over<B: Bank + Drop>(rt: &HostRuntime, bank: B) -> io::Result<()> {
+    let effort = effort(4, 4)?;
+    steps(
+        rt,
+        &mut Store::new(bank, Aspects, PacedRule::new(7, 3), effort),
+    )
+}
+
+fn steps<S: ListStore<Value = Aspect>>(rt: &HostRuntime, store: &mut S) -> io::Result<()> {
+    for step in 0..12 {
+        make(store, &moves(step))?;
+        print_signals(rt, store, "move", step)?;
+        stop(store, step % 4)?;
+        print_signals(rt, store, "stop", step)?;
     }
     Ok(())
 }
@@ -69,69 +96,78 @@ fn aspect_at(block: u8, step: u8) -> Aspect {
     }
 }
 
-// The starvation bound holds: at most 8 cells are reachable, and the store has 24, a floor of 7 and an effort of 4 and 4.
-fn train<B: Bank + Drop>(rt: &HostRuntime, bank: B) -> anyhow::Result<()> {
-    println!(rt; "signals: a train over four blocks")?;
-    let mut store = Store::new(bank, Aspects, PacedRule::new(7, 3), effort(4, 4)?);
-    for step in 0..12 {
-        let aspects = [
-            aspect_at(0, step),
-            aspect_at(1, step),
-            aspect_at(2, step),
-            aspect_at(3, step),
-        ];
-        put(&mut store, &aspects).map_err(refusal)?;
-        print_signals(rt, &mut store, "move", step)?;
-        stop(&mut store, step % 4).map_err(refusal)?;
-        print_signals(rt, &mut store, "stop", step)?;
+// A new list of signals in register 0; the one before is dropped.
+fn moves(step: u8) -> [Call<Aspect>; 11] {
+    [
+        Call::Clear(4),
+        Call::Load(1, aspect_at(3, step)),
+        Call::Cons(4, 1, 4),
+        Call::Load(1, aspect_at(2, step)),
+        Call::Cons(4, 1, 4),
+        Call::Load(1, aspect_at(1, step)),
+        Call::Cons(4, 1, 4),
+        Call::Load(1, aspect_at(0, step)),
+        Call::Cons(4, 1, 4),
+        Call::Copy(0, 4),
+        Call::Clear(4),
+    ]
+}
+
+fn make<S: ListStore<Value = Aspect>>(store: &mut S, calls: &[Call<Aspect>]) -> io::Result<()> {
+    for call in calls {
+        if store.apply(call).is_err() {
+            return Err(unasked());
+        }
     }
     Ok(())
 }
 
-// A new list of signals in register 0; the one before is dropped.
-fn put<S: ListStore<Value = Aspect>>(store: &mut S, aspects: &[Aspect]) -> Result<(), StoreFault> {
-    store.clear(4)?;
-    for aspect in aspects.iter().rev() {
-        store.load(1, aspect)?;
-        store.cons(4, 1, 4)?;
-    }
-    store.copy(0, 4)?;
-    store.clear(4)
-}
-
 // A block's signal holds, in place.
-fn stop<S: ListStore<Value = Aspect>>(store: &mut S, block: u8) -> Result<(), StoreFault> {
-    store.copy(2, 0)?;
+fn stop<S: ListStore<Value = Aspect>>(store: &mut S, block: u8) -> io::Result<()> {
+    make(store, &[Call::Copy(2, 0)])?;
     for _ in 0..block {
-        store.cdr(2, 2)?;
+        make(store, &[Call::Cdr(2, 2)])?;
     }
-    store.load(1, &Aspect::Hold(Seconds::new(255)))?;
-    store.rplaca(2, 1)
+    let held = Aspect::Hold(Seconds::new(255));
+    make(store, &[Call::Load(1, held), Call::Rplaca(2, 1)])
 }
 
-// The aspect of the first signal of the list in register 2, which goes on to the rest.
-fn next<S: ListStore<Value = Aspect>>(store: &mut S) -> Result<Seen<Aspect>, StoreFault> {
-    store.car(3, 2)?;
-    store.cdr(2, 2)?;
-    store.look(3)
-}
-
+// The signals of the list in register 0, and where the collector stands.
 fn print_signals<S: ListStore<Value = Aspect>>(
     rt: &HostRuntime,
     store: &mut S,
     name: &str,
     step: u8,
-) -> anyhow::Result<()> {
+) -> io::Result<()> {
     print!(rt; "  {name} {step}")?;
-    store.copy(2, 0).map_err(refusal)?;
-    for block in 0..4 {
-        let mark = if block == 0 { ":" } else { "," };
-        match next(store).map_err(refusal)? {
-            Seen::Nil => print!(rt; "{mark} nil")?,
-            Seen::Cell => print!(rt; "{mark} cell")?,
-            Seen::Atom(aspect) => print!(rt; "{mark} {}", AspectText(aspect))?,
-        }
+    make(store, &[Call::Copy(2, 0)])?;
+    print_list(rt, store)?;
+    println!(rt; "; {}", Place::of(store))
+}
+
+// The four signals of the list in register 2.
+fn print_list<S: ListStore<Value = Aspect>>(rt: &HostRuntime, store: &mut S) -> io::Result<()> {
+    print_next(rt, store, ":")?;
+    for _ in 1..4 {
+        print_next(rt, store, ",")?;
     }
-    println!(rt; "; {}", Place::of(store))?;
     Ok(())
+}
+
+// The first signal of the list in register 2, which goes on to the rest.
+fn print_next<S: ListStore<Value = Aspect>>(
+    rt: &HostRuntime,
+    store: &mut S,
+    mark: &str,
+) -> io::Result<()> {
+    make(store, &[Call::Car(3, 2), Call::Cdr(2, 2)])?;
+    let aspect = match store.look(3) {
+        Ok(Seen::Atom(aspect)) => Some(aspect),
+        _ => None,
+    };
+    print_aspect(rt, mark, aspect)
+}
+
+fn print_aspect(rt: &HostRuntime, mark: &str, aspect: Option<Aspect>) -> io::Result<()> {
+    print!(rt; "{mark} {}", AspectText(aspect))
 }

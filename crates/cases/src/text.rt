@@ -1,32 +1,51 @@
 // What is printed of calls, of stores and of their cells.
-use anyhow::anyhow;
+use crate::tables::Ask;
 use atoms::Zone;
-use atoms::zones::Zones;
-use bank::{Bank, Cell, Word};
+use bank::{BankFault, Cell, Word};
 use listcalls::{Call, Phase};
 use pacing::effort::Effort;
-use pacing::floor::FloorRule;
-use replies::{LineFault, Reply};
-use std::fmt;
-use store::{ListStore, Store};
+use replies::LineFault;
+use std::alloc::Global;
+use std::{fmt, io};
+use store::ListStore;
+
+// The name of a call, its numbers and how many there are.
+fn parts(ask: Ask) -> (&'static str, [u32; 3], usize) {
+    match ask {
+        Ask::Load(i, offset, length) => ("load", [i, offset, length], 3),
+        Ask::Clear(i) => ("clear", [i, 0, 0], 1),
+        Ask::Copy(i, a) => ("copy", [i, a, 0], 2),
+        Ask::Cons(i, a, b) => ("cons", [i, a, b], 3),
+        Ask::Car(i, a) => ("car", [i, a, 0], 2),
+        Ask::Cdr(i, a) => ("cdr", [i, a, 0], 2),
+        Ask::Rplaca(a, b) => ("rplaca", [a, b, 0], 2),
+        Ask::Rplacd(a, b) => ("rplacd", [a, b, 0], 2),
+        Ask::Look(i) => ("look", [i, 0, 0], 1),
+        Ask::Same(i, j) => ("same", [i, j, 0], 2),
+    }
+}
+
+// Numbers with a space before each.
+#[derive(Clone, Copy)]
+pub struct NumbersText<'a>(pub &'a [u32]);
+
+impl fmt::Display for NumbersText<'_> {
+    fn fmt<W: fmt::Write>(&self, f: &mut fmt::Formatter<W>) -> fmt::Result {
+        for n in self.0 {
+            write!(f, " {n}")?;
+        }
+        Ok(())
+    }
+}
 
 #[derive(Clone, Copy)]
-pub struct CallText<'a>(pub &'a Call<Zone>);
+pub struct AskText(pub Ask);
 
-impl fmt::Display for CallText<'_> {
+impl fmt::Display for AskText {
     fn fmt<W: fmt::Write>(&self, f: &mut fmt::Formatter<W>) -> fmt::Result {
-        match *self.0 {
-            Call::Load(i, zone) => write!(f, "load {i} {zone}"),
-            Call::Clear(i) => write!(f, "clear {i}"),
-            Call::Copy(i, a) => write!(f, "copy {i} {a}"),
-            Call::Cons(i, a, b) => write!(f, "cons {i} {a} {b}"),
-            Call::Car(i, a) => write!(f, "car {i} {a}"),
-            Call::Cdr(i, a) => write!(f, "cdr {i} {a}"),
-            Call::Rplaca(a, b) => write!(f, "rplaca {a} {b}"),
-            Call::Rplacd(a, b) => write!(f, "rplacd {a} {b}"),
-            Call::Look(i) => write!(f, "look {i}"),
-            Call::Same(i, j) => write!(f, "same {i} {j}"),
-        }
+        let (name, numbers, count) = parts(self.0);
+        let numbers = numbers.get(..count).unwrap_or(&numbers);
+        write!(f, "{name}{}", NumbersText(numbers))
     }
 }
 
@@ -44,14 +63,19 @@ impl fmt::Display for WordText {
     }
 }
 
+// A cell, or its refusal.
 #[derive(Clone, Copy)]
-pub struct CellText(pub Cell);
+pub struct CellText(pub Result<Cell, BankFault>);
 
 impl fmt::Display for CellText {
     fn fmt<W: fmt::Write>(&self, f: &mut fmt::Formatter<W>) -> fmt::Result {
-        let Cell { car, cdr, mark } = self.0;
-        let end = if mark { ", marked" } else { "" };
-        write!(f, "{}, {}{end}", WordText(car), WordText(cdr))
+        match self.0 {
+            Ok(Cell { car, cdr, mark }) => {
+                let end = if mark { ", marked" } else { "" };
+                write!(f, "{}, {}{end}", WordText(car), WordText(cdr))
+            }
+            Err(fault) => write!(f, "{}", LineFault::Store(fault.into())),
+        }
     }
 }
 
@@ -84,94 +108,45 @@ impl fmt::Display for Place {
     }
 }
 
-// What the program says of a refusal that it did not ask for.
-pub fn told(fault: LineFault) -> anyhow::Error {
-    anyhow!("{fault}")
+// What the program says of a refusal that no example asks for.
+pub fn unasked() -> io::Error {
+    io::Error::other("refused, and no example asks for it")
 }
 
-pub fn zone(offset: u32, length: u32) -> anyhow::Result<Zone> {
-    Zone::new(offset, length).map_err(|fault| told(fault.into()))
-}
-
-pub fn effort(k1: u32, k2: u32) -> anyhow::Result<Effort> {
-    Effort::new(k1, k2).map_err(|fault| told(fault.into()))
-}
-
-// Makes a call, and prints its answer and where the collector then stands.
-pub fn make_one<S: ListStore<Value = Zone>>(
-    rt: &HostRuntime,
-    store: &mut S,
-    call: &Call<Zone>,
-) -> anyhow::Result<()> {
-    let reply = Reply::from(&store.apply(call));
-    println!(rt; "  {}: {reply}; {}", CallText(call), Place::of(store))?;
-    Ok(())
-}
-
-// Makes calls in order.
-pub fn make<S: ListStore<Value = Zone>>(
-    rt: &HostRuntime,
-    store: &mut S,
-    calls: &[Call<Zone>],
-) -> anyhow::Result<()> {
-    for call in calls {
-        make_one(rt, store, call)?;
+pub fn effort(k1: u32, k2: u32) -> io::Result<Effort> {
+    match Effort::new(k1, k2) {
+        Ok(effort) => Ok(effort),
+        Err(_) => Err(unasked()),
     }
-    Ok(())
 }
 
-// Makes one call some times over.
-pub fn repeat<S: ListStore<Value = Zone>>(
-    rt: &HostRuntime,
-    store: &mut S,
-    times: u32,
-    call: &Call<Zone>,
-) -> anyhow::Result<()> {
-    for _ in 0..times {
-        make_one(rt, store, call)?;
+fn load(i: u32, offset: u32, length: u32) -> io::Result<Call<Zone>> {
+    match Zone::new(offset, length) {
+        Ok(zone) => Ok(Call::Load(i, zone)),
+        Err(_) => Err(unasked()),
     }
-    Ok(())
 }
 
-// The same, with the counts of the answers alone.
-pub fn count<S: ListStore<Value = Zone>>(
-    rt: &HostRuntime,
-    store: &mut S,
-    times: u32,
-    call: &Call<Zone>,
-) -> anyhow::Result<()> {
-    let mut refused = 0_u32;
-    for _ in 0..times {
-        if store.apply(call).is_err() {
-            refused = refused.saturating_add(1);
-        }
+// The call that is asked for.
+pub fn call_of(ask: Ask) -> io::Result<Call<Zone>> {
+    match ask {
+        Ask::Load(i, offset, length) => load(i, offset, length),
+        Ask::Clear(i) => Ok(Call::Clear(i)),
+        Ask::Copy(i, a) => Ok(Call::Copy(i, a)),
+        Ask::Cons(i, a, b) => Ok(Call::Cons(i, a, b)),
+        Ask::Car(i, a) => Ok(Call::Car(i, a)),
+        Ask::Cdr(i, a) => Ok(Call::Cdr(i, a)),
+        Ask::Rplaca(a, b) => Ok(Call::Rplaca(a, b)),
+        Ask::Rplacd(a, b) => Ok(Call::Rplacd(a, b)),
+        Ask::Look(i) => Ok(Call::Look(i)),
+        Ask::Same(i, j) => Ok(Call::Same(i, j)),
     }
-    let accepted = times.saturating_sub(refused);
-    println!(rt;
-        "  {}, {times} in a row: {accepted} accepted, {refused} refused; {}",
-        CallText(call),
-        Place::of(store)
-    )?;
-    Ok(())
 }
 
-// Prints some cells of the store's bank.
-pub fn show<S: ListStore>(rt: &HostRuntime, store: &S, numbers: &[u32]) -> anyhow::Result<()> {
-    for n in numbers {
-        match store.cell(*n) {
-            Ok(cell) => println!(rt; "  cell {n}: {}", CellText(cell))?,
-            Err(fault) => println!(rt; "  cell {n}: {}", LineFault::Store(fault.into()))?,
-        }
+pub fn calls_of(heap: Global, asks: &[Ask]) -> io::Result<Vec<Call<Zone>>> {
+    let mut calls = Vec::new(heap);
+    for ask in asks {
+        calls.push(call_of(*ask)?)?;
     }
-    Ok(())
-}
-
-// A new store of zones under the floor rule.
-pub fn zone_store<B: Bank + Drop>(
-    bank: B,
-    floor: u32,
-    k1: u32,
-    k2: u32,
-) -> anyhow::Result<Store<B, Zones, FloorRule>> {
-    Ok(Store::new(bank, Zones, FloorRule::new(floor), effort(k1, k2)?))
+    Ok(calls)
 }
