@@ -7,6 +7,7 @@ mod opening;
 mod reply;
 mod serving;
 mod session;
+mod text;
 
 pub use call::call_of;
 pub use fault::LineFault;

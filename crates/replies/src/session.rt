@@ -6,7 +6,8 @@ ghost use Rattle.replies.specs.Sessions.{plan_fixed, events_of, replies_in, Adde
 
 use super::opening::{Opening, open_plan};
 use super::reply::Reply;
-use super::serving::{push_line, serve_lines};
+use super::serving::serve_lines;
+use super::text::push_line;
 use atoms::zones::Zones;
 use bank::{Bank, MOST_CELLS};
 use memory::PackedBank;

@@ -1,7 +1,7 @@
 use Rattle.std.proofs.Common.{string_bytes, arith}
 use Rattle.std.proofs.lemmas.Result.{on_ok_weaker}
 use Rattle.replies.proofs.Numbers.{two_pushed}
-use Rattle.replies.proofs.serving.push_number.Goals as goal
+use Rattle.replies.proofs.text.push_number.Goals as goal
 
 pub returns-in_ok-push_digit-in-10-to-99 : goal.returns-in_ok-push_digit-in-10-to-99
 returns-in_ok-push_digit-in-10-to-99 c =
