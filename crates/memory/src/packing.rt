@@ -101,8 +101,7 @@ fn unpacked_word(bits: u64) -> Word
     }
 }
 
-// The kind as the number that the format gives it.
-#[inline(always)]
+// The kind as the number that the format gives it. Not forced in place: made simple by itself, it is the variant's number.
 fn kind(word: Word) -> u64
     ensures value { result ≡ kind_of word }
     ensures small { result < 4 }
