@@ -97,16 +97,16 @@ passes-on : (cells : List Cell) (n k : ℕ) (c : Cell) → asked cells n ≡ Ok 
     → free_run cells n (suc k) ≡ suc (free_run cells (n + 1) k)
 passes-on cells n k c there passed = passes-if (ltb n (length cells)) cells n k c refl there passed
 
--- One more cell of a run, and the cell that ends it.
-pub run-more : (cells : List Cell) (n next run most : ℕ) (c : Cell) → asked cells next ≡ Ok c → is_passed c ≡ true → run < most → next ≡ n + run
-    → run + free_run cells next (most - run) ≡ free_run cells n most
-    → (next + 1 ≡ n + (run + 1)) × (run + 1 + free_run cells (next + 1) (most - (run + 1)) ≡ free_run cells n most)
-run-more cells n next run most c there passed more place rest =
+-- One more cell of a run.
+pub run-more : (cells : List Cell) (n next most : ℕ) (c : Cell) → asked cells next ≡ Ok c → is_passed c ≡ true → n ≤ next → next < n + most
+    → next - n + free_run cells next (most - (next - n)) ≡ free_run cells n most
+    → next + 1 - n + free_run cells (next + 1) (most - (next + 1 - n)) ≡ free_run cells n most
+run-more cells n next most c there passed from more rest =
+    let run : ℕ = next - n in
+    let one : next + 1 - n ≡ run + 1 = omega arith in
     let step : free_run cells next (most - run) ≡ suc (free_run cells (next + 1) (most - (run + 1))) =
-    ap (free_run cells next) (left most run more) ∙ passes-on cells next (most - (run + 1)) c there passed in (
-      omega arith,
-      omega arith,
-    )
+    ap (free_run cells next) (left most run (omega arith)) ∙ passes-on cells next (most - (run + 1)) c there passed in
+    rw one (omega arith)
 
 -- A sweep past the last cell changes nothing.
 past : (limit k : ℕ) (g : Ground) → ltb g.pool.sweeper (length g.cells) ≡ false → sweeps limit k g ≡ g

@@ -120,15 +120,15 @@ fn run_after<B: Bank>(bank: &B, was_free: bool, n: u32, most: u32) -> u32
 fn free_run<B: Bank>(bank: &B, n: u32, most: u32) -> u32
     ensures { result ≡ free_run (B.cells bank.now) n most }
 {
-    let mut next = n;
-    for run in 0..most {
+    // No further than the last cell: the compiler then drops the test that the bank makes of each.
+    let end = bank.size().min(n.saturating_add(most));
+    for next in n..end {
         let Ok(cell) = bank.cell(next) else {
-            return run;
+            return next - n;
         };
         if !is_passed(cell) {
-            return run;
+            return next - n;
         }
-        next += 1;
     }
-    most
+    end.saturating_sub(n)
 }

@@ -1,7 +1,10 @@
-use Rattle.std.proofs.Common.{sym, ◌∙◌}
+use Rattle.std.proofs.Common.{sym, ◌∙◌, arith}
 use Rattle.store.proofs.Sweeps.{run-more}
 use Rattle.store.proofs.pool.free_run.Goals as goal
 
-pub loop-run-preserved : goal.loop-run-preserved
-loop-run-preserved g c =
-    run-more (g.B.Bank.cells c.args.bank.now) c.args.n c.loop-run.next c.loop-run.run c.args.most c.in-Ok.cell (sym c.cell.ensures ∙ c.in-Ok.is) (sym c.is_passed.ensures ∙ c.if-not-is_passed.false) c.loop-run-test.true c.loop-run.invariant.0 c.loop-run.invariant.1
+pub loop-next-preserved : goal.loop-next-preserved
+loop-next-preserved g c = (
+  omega arith,
+  omega arith,
+  run-more (g.B.Bank.cells c.args.bank.now) c.args.n c.loop-next.next c.args.most c.in-Ok.cell (sym c.cell.ensures ∙ c.in-Ok.is) (sym c.is_passed.ensures ∙ c.if-not-is_passed.false) c.loop-next.invariant.0 (omega arith) c.loop-next.invariant.2,
+)
