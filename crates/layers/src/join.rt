@@ -12,7 +12,7 @@ pub struct Join<F, G> {
 }
 
 // Where a cell of a join lies, with its number there.
-#[derive(Clone, Copy, PartialEq, Eq, Debug)]
+#[derive(Drop)]
 enum Side {
     First(u32),
     Second(u32),

@@ -1,5 +1,5 @@
 // The name that a line begins with.
-ghost use Rattle.std.specs.Prelude.{◌≡◌, ◌≤◌, length, false, IfSome};
+ghost use Rattle.std.specs.Prelude.{◌≡◌, ◌≤◌, ◌∷◌, length, false, IfSome};
 ghost use Rattle.plan.specs.Names.{table, agree, found, closest};
 ghost use Rattle.plan.specs.Verbs.{word};
 ghost use Rattle.plan.specs.Readings.{Written};
@@ -63,16 +63,27 @@ fn later(text: &[u8]) -> Option<(Verb, &[u8])>
     ensures { IfSome result (λ r. NameAt false text.now r.0 r.1.now) }
 {
     match text {
+        [b'c', rest @ ..] => later_with_c(rest),
         [b'l', b'o', b'a', b'd', b' ', rest @ ..] => Some((Verb::Load, rest)),
-        [b'c', b'l', b'e', b'a', b'r', b' ', rest @ ..] => Some((Verb::Clear, rest)),
-        [b'c', b'o', b'p', b'y', b' ', rest @ ..] => Some((Verb::Copy, rest)),
-        [b'c', b'o', b'n', b's', b' ', rest @ ..] => Some((Verb::Cons, rest)),
-        [b'c', b'a', b'r', b' ', rest @ ..] => Some((Verb::Car, rest)),
-        [b'c', b'd', b'r', b' ', rest @ ..] => Some((Verb::Cdr, rest)),
         [b'r', b'p', b'l', b'a', b'c', b'a', b' ', rest @ ..] => Some((Verb::Rplaca, rest)),
         [b'r', b'p', b'l', b'a', b'c', b'd', b' ', rest @ ..] => Some((Verb::Rplacd, rest)),
         [b'l', b'o', b'o', b'k', b' ', rest @ ..] => Some((Verb::Look, rest)),
         [b's', b'a', b'm', b'e', b' ', rest @ ..] => Some((Verb::Same, rest)),
+        _ => None,
+    }
+}
+
+// The same behind the c that half of the words begin with: the prover is faster with two matches of five than with one of ten.
+#[inline(always)]
+fn later_with_c(text: &[u8]) -> Option<(Verb, &[u8])>
+    ensures { IfSome result (λ r. NameAt false (99 ∷ text.now) r.0 r.1.now) }
+{
+    match text {
+        [b'l', b'e', b'a', b'r', b' ', rest @ ..] => Some((Verb::Clear, rest)),
+        [b'o', b'p', b'y', b' ', rest @ ..] => Some((Verb::Copy, rest)),
+        [b'o', b'n', b's', b' ', rest @ ..] => Some((Verb::Cons, rest)),
+        [b'a', b'r', b' ', rest @ ..] => Some((Verb::Car, rest)),
+        [b'd', b'r', b' ', rest @ ..] => Some((Verb::Cdr, rest)),
         _ => None,
     }
 }

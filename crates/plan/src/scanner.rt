@@ -3,11 +3,11 @@ ghost use Rattle.std.specs.Prelude.{◌≡◌, ◌+◌, ◌<◌, List, ℕ, ◌�
 ghost use Rattle.plan.specs.Parts.{NoDigit};
 
 // No text of the wanted kind goes on with what is left.
-#[derive(Clone, Copy, PartialEq, Eq, Debug)]
+#[derive(Drop)]
 pub struct Mismatch;
 
 // What is left to read. Where a method fails, it is left at the byte with which no wanted text goes on.
-#[derive(Debug, Drop)]
+#[derive(Drop)]
 pub struct Scanner<'a> {
     pub rest: &'a [u8],
 }

@@ -6,7 +6,7 @@ ghost use Rattle.plan.specs.Parts.{CallAt, Numbers, Scans};
 use crate::line::Line;
 use crate::scanner::{Mismatch, Scanner};
 
-#[derive(Clone, Copy, PartialEq, Eq, Debug)]
+#[derive(Clone, Copy)]
 pub enum Verb {
     Store,
     Load,

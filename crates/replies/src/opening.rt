@@ -7,7 +7,7 @@ use pacing::fault::EffortFault;
 use plan::Line;
 
 // The store that a plan asks for.
-#[derive(Clone, Copy, PartialEq, Eq, Debug)]
+#[derive(Clone, Copy)]
 pub struct Opening {
     pub cells: u32,
     pub effort: Effort,

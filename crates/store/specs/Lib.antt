@@ -4,4 +4,5 @@ pub mod Steps
 pub mod Passing
 pub mod Answers
 pub mod Halves
+pub mod Pairs
 pub mod Results

@@ -1,10 +1,11 @@
 // The two words of a cell.
 ghost use Rattle.std.specs.Prelude.{◌≡◌};
-ghost use Rattle.store.specs.Halves.{word_of, change_to};
+ghost use Rattle.bank.specs.Words.{with_change, word_in};
+ghost use Rattle.store.specs.Halves.{word_of, with_word};
 
 use bank::{Cell, Change, Word};
 
-#[derive(Clone, Copy, PartialEq, Eq, Debug)]
+#[derive(Clone, Copy)]
 pub enum Half {
     Car,
     Cdr,
@@ -22,7 +23,8 @@ impl Half {
 
     // The change that puts a word there.
     pub fn to(self, word: Word) -> Change
-        ensures { result ≡ change_to self word }
+        ensures word { word_in result ≡ word }
+        ensures change { with_change result ≡ with_word self word }
     {
         match self {
             Half::Car => Change::Car(word),

@@ -18,7 +18,8 @@ use listcalls::{Answer, Call, Outcome, Phase, Seen, StoreFault};
 fn done<V>(res: Result<(), StoreFault>) -> Outcome<V>
     ensures { result ≡ outcome_of res }
 {
-    res.map(|()| Answer::Done)
+    res?;
+    Ok(Answer::Done)
 }
 
 pub trait ListStore {

@@ -7,7 +7,7 @@ ghost use Rattle.store.specs.Passing.{is_passed, free_run};
 
 use bank::{Bank, Cell, Change, MOST_CELLS, Word};
 
-#[derive(Clone, Copy, PartialEq, Eq, Debug)]
+#[derive(Clone, Copy)]
 pub struct Pool {
     pub head: Word,
     pub count: u32,

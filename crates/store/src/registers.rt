@@ -1,15 +1,15 @@
-ghost use Rattle.std.specs.Prelude.{◌≡◌, length, replicate, slice_set};
+ghost use Rattle.std.specs.Prelude.{◌≡◌, replicate, slice_set};
 ghost use Rattle.bank.specs.declared.word.Word.{Word};
 ghost use Rattle.collector.specs.Outcomes.{register_asked};
+ghost use Rattle.store.specs.Pairs.{pair_asked};
 
 use bank::Word;
 use listcalls::StoreFault;
 
-// The sixteen registers. Their count stands beside the array's type, since without it the proof of a cons is not found.
-#[derive(Clone, Copy, PartialEq, Eq, Debug)]
+// The sixteen registers.
+#[derive(Drop)]
 pub struct Registers {
     words: [Word; 16],
-    ghost full: { length words ≡ 16 },
 }
 
 impl Registers {
@@ -29,6 +29,15 @@ impl Registers {
             .get(r as usize)
             .copied()
             .ok_or(StoreFault::NoRegister(r))
+    }
+
+    // The words of two registers, or the refusal of the first number that is none's.
+    pub fn pair(&self, r: u32, s: u32) -> Result<(Word, Word), StoreFault>
+        ensures { result ≡ pair_asked self.now.words r s }
+    {
+        let first = self.get(r)?;
+        let second = self.get(s)?;
+        Ok((first, second))
     }
 
     // A register set; a number that is none's changes nothing.

@@ -2,11 +2,12 @@
 ghost use Rattle.std.specs.Prelude.{◌≡◌, false, length, ◌==◌};
 ghost use Rattle.collector.specs.States.{new as new_state};
 ghost use Rattle.collector.specs.Turns.{begun, turn, work as work_of};
-ghost use Rattle.collector.specs.Calls.{call, with_heap, offer_in, take_from};
+ghost use Rattle.collector.specs.Calls.{with_heap, offer_in, take_from, read_by, write, replace_by};
+ghost use Rattle.collector.specs.Outcomes.{same_word, seen};
 ghost use Rattle.collector.specs.Runs.{RuleAfter, is_idle};
 ghost use Rattle.listcalls.specs.declared.call.Answer.{Answer};
 ghost use Rattle.store.specs.Answers.{outcome_by, outcome_of};
-ghost use Rattle.store.specs.Halves.{reading, replacing};
+ghost use Rattle.store.specs.Halves.{word_of, with_word};
 ghost use Rattle.store.specs.Meaning.{fixed_by};
 ghost use Rattle.store.specs.Steps.{with_phase, shared, over};
 
@@ -19,7 +20,7 @@ use crate::registers::Registers;
 use crate::waiting::Waiting;
 use atoms::Kind;
 use bank::{Bank, Word};
-use listcalls::{Phase, StoreFault};
+use listcalls::{Phase, Seen, StoreFault};
 use pacing::effort::Effort;
 use pacing::rule::StartRule;
 
@@ -88,6 +89,7 @@ impl<B: Bank, K: Kind, R: StartRule> Store<B, K, R> {
     fn begin(&mut self)
         ensures state { ⟦<Self as ListStore>⟧.state self.new ≡
             with_phase self.old.phase (begun (⟦<Self as ListStore>⟧.state self.old)) }
+        ensures registers { self.new.registers ≡ self.old.registers }
         ensures kind { self.new.kind ≡ self.old.kind }
         ensures rule { self.new.rule ≡ self.old.rule }
     {
@@ -100,6 +102,7 @@ impl<B: Bank, K: Kind, R: StartRule> Store<B, K, R> {
     fn share(&mut self) -> u32
         ensures state { ⟦<Self as ListStore>⟧.state self.new ≡ shared (⟦<Self as ListStore>⟧.state self.old) }
         ensures work { result ≡ work_of (⟦<Self as ListStore>⟧.state self.old) }
+        ensures registers { self.new.registers ≡ self.old.registers }
         ensures kind { self.new.kind ≡ self.old.kind }
         ensures rule { self.new.rule ≡ self.old.rule }
     {
@@ -114,6 +117,7 @@ impl<B: Bank, K: Kind, R: StartRule> Store<B, K, R> {
     fn is_over(&mut self) -> bool
         ensures state { ⟦<Self as ListStore>⟧.state self.new ≡ ⟦<Self as ListStore>⟧.state self.old }
         ensures answer { result ≡ over (R.says self.old.rule self.old.pool.count) (⟦<Self as ListStore>⟧.state self.old) }
+        ensures registers { self.new.registers ≡ self.old.registers }
         ensures kind { self.new.kind ≡ self.old.kind }
         ensures rule { RuleAfter R.becomes (is_idle self.old.phase) self.old.rule self.old.pool.count self.new.rule }
     {
@@ -129,6 +133,7 @@ impl<B: Bank, K: Kind, R: StartRule> Store<B, K, R> {
         ensures state { ⟦<Self as ListStore>⟧.state self.new ≡
             turn (R.says self.old.rule self.old.pool.count) (⟦<Self as ListStore>⟧.state self.old) }
         ensures work { result ≡ work_of (⟦<Self as ListStore>⟧.state self.old) }
+        ensures registers { self.new.registers ≡ self.old.registers }
         ensures kind { self.new.kind ≡ self.old.kind }
         ensures rule { RuleAfter R.becomes (is_idle self.old.phase) self.old.rule self.old.pool.count self.new.rule }
     {
@@ -154,8 +159,9 @@ impl<B: Bank, K: Kind, R: StartRule> Store<B, K, R> {
         ensures kind { self.new.kind ≡ self.old.kind }
         ensures rule { self.new.rule ≡ self.old.rule }
     {
-        if let Phase::Mark = self.phase {
-            self.heap.offer(word);
+        match self.phase {
+            Phase::Mark => self.heap.offer(word),
+            Phase::Idle | Phase::Sweep => {}
         }
     }
 
@@ -183,18 +189,30 @@ impl<B: Bank, K: Kind, R: StartRule> Store<B, K, R> {
         Ok(work)
     }
 
-    // Copies a word of the cell in register a into register i.
+    // What a look at a word shows.
     #[inline(always)]
-    fn read(&mut self, half: Half, i: u32, a: u32) -> Result<(), StoreFault>
-        ensures state { ⟦<Self as ListStore>⟧.state self.new ≡
-            (call (R.says self.old.rule self.old.pool.count) (⟦<Self as ListStore>⟧.state self.old) (reading half i a)).state }
-        ensures answer { outcome_of result ≡
-            (call (R.says self.old.rule self.old.pool.count) (⟦<Self as ListStore>⟧.state self.old) (reading half i a)).outcome }
+    fn seen(&self, word: Word) -> Seen<K::Value>
+        ensures { result ≡ seen (⟦<Self as ListStore>⟧.state self.now).fixed.atoms word }
+    {
+        match word {
+            Word::Nil | Word::Reserved => Seen::Nil,
+            Word::Cell(_) => Seen::Cell,
+            Word::Atom(code) => match self.kind.value(code) {
+                Some(value) => Seen::Atom(value),
+                None => Seen::Nil,
+            },
+        }
+    }
+
+    // Copies a word of the cell that the word of register a names into register i.
+    #[inline(always)]
+    fn read(&mut self, half: Half, i: u32, a: u32, word: Word) -> Result<(), StoreFault>
+        ensures state { ⟦<Self as ListStore>⟧.state self.new ≡ (read_by (word_of half) word i a (⟦<Self as ListStore>⟧.state self.old)).state }
+        ensures answer { outcome_of result ≡ (read_by (word_of half) word i a (⟦<Self as ListStore>⟧.state self.old)).outcome }
         ensures kind { self.new.kind ≡ self.old.kind }
         ensures rule { self.new.rule ≡ self.old.rule }
     {
-        self.registers.get(i)?;
-        let Word::Cell(n) = self.registers.get(a)? else {
+        let Word::Cell(n) = word else {
             return Err(StoreFault::NotACell(a));
         };
         let cell = self.heap.bank.cell(n)?;
@@ -202,24 +220,46 @@ impl<B: Bank, K: Kind, R: StartRule> Store<B, K, R> {
         Ok(())
     }
 
-    // Puts register b's word into the cell in register a.
+    // Puts a word into a cell.
     #[inline(always)]
-    fn replace(&mut self, half: Half, a: u32, b: u32) -> Result<(), StoreFault>
-        ensures state { ⟦<Self as ListStore>⟧.state self.new ≡
-            (call (R.says self.old.rule self.old.pool.count) (⟦<Self as ListStore>⟧.state self.old) (replacing half a b)).state }
-        ensures answer { outcome_of result ≡
-            (call (R.says self.old.rule self.old.pool.count) (⟦<Self as ListStore>⟧.state self.old) (replacing half a b)).outcome }
+    fn write(&mut self, half: Half, n: u32, word: Word) -> Result<(), StoreFault>
+        ensures state { ⟦<Self as ListStore>⟧.state self.new ≡ (write (with_word half) n word (⟦<Self as ListStore>⟧.state self.old)).state }
+        ensures answer { outcome_of result ≡ (write (with_word half) n word (⟦<Self as ListStore>⟧.state self.old)).outcome }
         ensures kind { self.new.kind ≡ self.old.kind }
         ensures rule { self.new.rule ≡ self.old.rule }
     {
-        let target = self.registers.get(a)?;
-        let word = self.registers.get(b)?;
+        self.heap.bank.set(n, half.to(word))?;
+        Ok(())
+    }
+
+    // Puts a word into the cell that the word of register a names.
+    #[inline(always)]
+    fn replace(&mut self, half: Half, a: u32, target: Word, word: Word) -> Result<(), StoreFault>
+        ensures state { ⟦<Self as ListStore>⟧.state self.new ≡
+            (replace_by (word_of half) (with_word half) target a word (⟦<Self as ListStore>⟧.state self.old)).state }
+        ensures answer { outcome_of result ≡
+            (replace_by (word_of half) (with_word half) target a word (⟦<Self as ListStore>⟧.state self.old)).outcome }
+        ensures kind { self.new.kind ≡ self.old.kind }
+        ensures rule { self.new.rule ≡ self.old.rule }
+    {
         let Word::Cell(n) = target else {
             return Err(StoreFault::NotACell(a));
         };
         let cell = self.heap.bank.cell(n)?;
         self.shade(half.of(cell));
-        self.heap.bank.set(n, half.to(word))?;
-        Ok(())
+        self.write(half, n, word)
+    }
+}
+
+// Whether two words are the same one: two nils, one cell, or equal codes.
+#[inline(always)]
+fn same_word(first: Word, second: Word) -> bool
+    ensures { result ≡ same_word first second }
+{
+    match (first, second) {
+        (Word::Nil, Word::Nil) => true,
+        (Word::Cell(m), Word::Cell(n)) => m == n,
+        (Word::Atom(b), Word::Atom(c)) => b == c,
+        _ => false,
     }
 }

@@ -1,9 +1,5 @@
-// Tests of the libraries through their public items, in a crate of their own: a crate with tests is proved twice.
+// Tests of the banks through their public items, in a crate of their own: a crate with tests is proved twice.
 #![tactic(auto)]
 
 #[cfg(test)]
 mod banks;
-#[cfg(test)]
-mod plans;
-#[cfg(test)]
-mod values;

@@ -1,7 +1,7 @@
 // The ten calls, and what is read of a store.
 ghost use Rattle.store.specs.Meaning.{meant, grounded-by};
 
-use super::Store;
+use super::{Store, same_word};
 use crate::half::Half;
 use crate::list_store::ListStore;
 use atoms::Kind;
@@ -45,56 +45,45 @@ impl<B: Bank, K: Kind, R: StartRule> ListStore for Store<B, K, R> {
     }
 
     fn copy(&mut self, i: u32, a: u32) -> Result<(), StoreFault> {
-        self.registers.get(i)?;
-        let word = self.registers.get(a)?;
+        let (_, word) = self.registers.pair(i, a)?;
         self.registers.set(i, word);
         Ok(())
     }
 
     fn cons(&mut self, i: u32, a: u32, b: u32) -> Result<u32, StoreFault> {
         self.registers.get(i)?;
-        let car = self.registers.get(a)?;
-        let cdr = self.registers.get(b)?;
+        let (car, cdr) = self.registers.pair(a, b)?;
         let work = self.turn();
         self.take(work, i, car, cdr)
     }
 
     fn car(&mut self, i: u32, a: u32) -> Result<(), StoreFault> {
-        self.read(Half::Car, i, a)
+        let (_, word) = self.registers.pair(i, a)?;
+        self.read(Half::Car, i, a, word)
     }
 
     fn cdr(&mut self, i: u32, a: u32) -> Result<(), StoreFault> {
-        self.read(Half::Cdr, i, a)
+        let (_, word) = self.registers.pair(i, a)?;
+        self.read(Half::Cdr, i, a, word)
     }
 
     fn rplaca(&mut self, a: u32, b: u32) -> Result<(), StoreFault> {
-        self.replace(Half::Car, a, b)
+        let (target, word) = self.registers.pair(a, b)?;
+        self.replace(Half::Car, a, target, word)
     }
 
     fn rplacd(&mut self, a: u32, b: u32) -> Result<(), StoreFault> {
-        self.replace(Half::Cdr, a, b)
+        let (target, word) = self.registers.pair(a, b)?;
+        self.replace(Half::Cdr, a, target, word)
     }
 
     fn look(&self, i: u32) -> Result<Seen<K::Value>, StoreFault> {
-        match self.registers.get(i)? {
-            Word::Nil | Word::Reserved => Ok(Seen::Nil),
-            Word::Cell(_) => Ok(Seen::Cell),
-            Word::Atom(code) => match self.kind.value(code) {
-                Some(value) => Ok(Seen::Atom(value)),
-                None => Ok(Seen::Nil),
-            },
-        }
+        Ok(self.seen(self.registers.get(i)?))
     }
 
     fn same(&self, i: u32, j: u32) -> Result<bool, StoreFault> {
-        let first = self.registers.get(i)?;
-        let second = self.registers.get(j)?;
-        match (first, second) {
-            (Word::Nil, Word::Nil) => Ok(true),
-            (Word::Cell(m), Word::Cell(n)) => Ok(m == n),
-            (Word::Atom(b), Word::Atom(c)) => Ok(b == c),
-            _ => Ok(false),
-        }
+        let (first, second) = self.registers.pair(i, j)?;
+        Ok(same_word(first, second))
     }
 
     fn phase(&self) -> Phase {
