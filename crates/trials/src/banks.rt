@@ -175,9 +175,10 @@ fn settles_twice(rt: HostRuntime) {
 fn wide_word_below(rt: HostRuntime) {
     let wide = Word::Atom(300_000_000);
     let mut words = [0u64; 2];
-    let mut cells = [Cell::BLANK, with_car(wide)];
-    let join = Join::new(PackedBank::new(&mut words), RecordBank::new(&mut cells));
-    let mut hold = Hold::new(join);
+    let mut cells = [Cell::BLANK; 2];
+    let mut record = RecordBank::new(&mut cells);
+    tries(&rt, &mut record, &[(1, Change::Car(wide), Ok(()))]);
+    let mut hold = Hold::new(Join::new(PackedBank::new(&mut words), record));
     tries(
         &rt,
         &mut hold,
