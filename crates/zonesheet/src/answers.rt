@@ -10,7 +10,7 @@ use atoms::zone::Zone;
 use std::fmt;
 
 // Why a line names no zone.
-#[derive(Clone, Copy, PartialEq, Eq, Debug)]
+#[derive(Clone, Copy)]
 pub enum Fault {
     Line(LineFault),
     Refused(ZoneFault),

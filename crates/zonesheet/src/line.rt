@@ -5,7 +5,7 @@ ghost use Rattle.zonesheet.specs.Lines.{Writes, WritesNone, NoSpace, Parted, Rea
 use std::fmt;
 
 // Why a line holds no two numbers.
-#[derive(Clone, Copy, PartialEq, Eq, Debug)]
+#[derive(Clone, Copy)]
 pub enum LineFault {
     NotText,
     NotTwo,

@@ -7,7 +7,7 @@ use atoms::zone::Zone;
 use atoms::zones::Zones;
 use std::fmt;
 
-#[derive(Clone, Copy, PartialEq, Eq, Debug)]
+#[derive(Clone, Copy)]
 pub struct Listing {
     zone: Zone,
     code: u32,

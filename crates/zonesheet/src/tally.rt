@@ -6,7 +6,7 @@ use crate::answers::Fault;
 use crate::listing::Listing;
 use std::fmt;
 
-#[derive(Clone, Copy, PartialEq, Eq, Debug, Default)]
+#[derive(Clone, Copy, Default)]
 pub struct Tally {
     zones: u64,
     refused: u64,
