@@ -199,3 +199,51 @@ fn wide_word_below(rt: HostRuntime) {
     hold.settle();
     has(&rt, &hold, &[(3, Ok(with_cdr(Word::Cell(0))))]);
 }
+
+// Every cell gets its own number, and what lies past the end or above the limit is refused.
+fn works<B: Bank + Drop>(rt: &impl Abort, mut bank: B, size: u32) {
+    assert_eq!(rt; bank.size(), size);
+    for n in 0..size {
+        let changes = [
+            (n, Change::Car(Word::Cell(n)), Ok(())),
+            (n, Change::Mark(true), Ok(())),
+        ];
+        tries(rt, &mut bank, &changes);
+    }
+    for n in 0..size {
+        let cell = with_car(Word::Cell(n)).with(Change::Mark(true));
+        has(rt, &bank, &[(n, Ok(cell))]);
+    }
+    let past = BankFault::NoSuchCell(size);
+    tries(rt, &mut bank, &[(size, Change::Cdr(Word::Nil), Err(past))]);
+    has(rt, &bank, &[(size, Err(past))]);
+}
+
+// These three piles have each of the layers over each.
+#[test]
+fn hold_over_hold_and_windows(rt: HostRuntime) {
+    let mut words = [0u64; 40];
+    let mut cells = [Cell::BLANK; 30];
+    let join = Join::new(PackedBank::new(&mut words), RecordBank::new(&mut cells));
+    let windows = Window::new(Window::new(join, 5, 60), 3, 100);
+    works(&rt, Hold::new(Hold::new(windows)), 57);
+}
+
+#[test]
+fn hold_over_join_over_window_over_hold(rt: HostRuntime) {
+    let mut words = [0u64; 40];
+    let mut cells = [Cell::BLANK; 30];
+    let window = Window::new(Hold::new(PackedBank::new(&mut words)), 2, 30);
+    let join = Join::new(window, RecordBank::new(&mut cells));
+    works(&rt, Hold::new(join), 60);
+}
+
+#[test]
+fn join_over_join_over_hold(rt: HostRuntime) {
+    let mut words = [0u64; 40];
+    let mut some = [Cell::BLANK; 30];
+    let mut more = [Cell::BLANK; 20];
+    let hold = Hold::new(PackedBank::new(&mut words));
+    let inner = Join::new(RecordBank::new(&mut some), hold);
+    works(&rt, Join::new(inner, RecordBank::new(&mut more)), 90);
+}
