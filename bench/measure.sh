@@ -2,8 +2,10 @@
 # Instructions and time per call of zoneplan and of the twin, less those of an empty plan:
 # measure.sh [zoneplan] [runs] [pattern of plan names]
 set -euo pipefail
-cd "$(dirname "$0")"
-zoneplan=${1:-../crates/zoneplan/out/zoneplan} runs=${2:-200} pattern=${3:-*}
+here=$(dirname "$(realpath "$0")")
+zoneplan=$(realpath -e "${1:-$here/../crates/zoneplan/out/zoneplan}")
+runs=${2:-200} pattern=${3:-*}
+cd "$here"
 twin=target/release/twin plans=target/plans
 cargo build --release --quiet
 target/release/plans "$plans"

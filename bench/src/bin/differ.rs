@@ -1,10 +1,11 @@
-//! Runs seeded random plans through `zoneplan` and the twin and compares what they print.
+//! Runs seeded random plans through `zoneplan` and the twin and compares what they print. A program that ends with a status
+//! other than 0, or by a signal, differs too.
 
 use std::collections::BTreeMap;
 use std::error::Error;
 use std::io::{ErrorKind, Write};
 use std::path::Path;
-use std::process::{Command, ExitCode, Stdio};
+use std::process::{Command, ExitCode, Output, Stdio};
 use zonetwin::answer::answer_plan;
 use zonetwin::damage::random_text;
 use zonetwin::plan::read_plan;
@@ -22,9 +23,12 @@ fn main() -> Result<ExitCode, Box<dyn Error>> {
         // Each plan has its own seed, so that one can be made again alone.
         let text = random_text(&mut Random::new(seed << 32 | number));
         let ours = answer_plan(&text);
-        let theirs = printed(&program, &text)?;
-        if ours != theirs {
-            save(Path::new(&folder), &text, &ours, &theirs)?;
+        let output = output_of(&program, &text)?;
+        if !output.status.success() {
+            println!("{program} ended with {}", output.status);
+        }
+        if ours != output.stdout || !output.status.success() {
+            save(Path::new(&folder), &text, &ours, &output.stdout)?;
             println!("plan {number} of seed {seed} differs; see {folder}/mismatch.*");
             return Ok(ExitCode::FAILURE);
         }
@@ -35,8 +39,8 @@ fn main() -> Result<ExitCode, Box<dyn Error>> {
     Ok(ExitCode::SUCCESS)
 }
 
-/// What the program prints for the text.
-fn printed(program: &str, text: &[u8]) -> Result<Vec<u8>, Box<dyn Error>> {
+/// What the program prints for the text, and how it ends.
+fn output_of(program: &str, text: &[u8]) -> Result<Output, Box<dyn Error>> {
     let mut child = Command::new(program).stdin(Stdio::piped()).stdout(Stdio::piped()).spawn()?;
     let mut stdin = child.stdin.take().ok_or("no stdin")?;
     match stdin.write_all(text) {
@@ -45,11 +49,7 @@ fn printed(program: &str, text: &[u8]) -> Result<Vec<u8>, Box<dyn Error>> {
         result => result?,
     }
     drop(stdin);
-    let output = child.wait_with_output()?;
-    if !output.status.success() {
-        println!("{program} ended with {}", output.status);
-    }
-    Ok(output.stdout)
+    Ok(child.wait_with_output()?)
 }
 
 fn save(folder: &Path, text: &[u8], ours: &[u8], theirs: &[u8]) -> std::io::Result<()> {
