@@ -13,13 +13,12 @@ SAID = re.compile(r"must-fail (\w+)/([\w-]+)\.edit: (refused, as it must be)?(.*
 PLACE = re.compile(r"(\S+\.(?:rt|antt)):(\d+):\d+.*?\(`([^`]+)`\)|(\S+\.(?:rt|antt)):(\d+):\d+")
 
 
-def edit_of(path):
-    """Returns the file that an edit turns, and its pairs of an old and a new text."""
+def pairs_of(path):
+    """Returns an edit's pairs of an old and a new text."""
     lines = path.read_text().splitlines()
-    file = next(it[6:] for it in lines if it.startswith("file: "))
     old = [it[5:].strip() for it in lines if it.startswith("old: ")]
     new = [it[5:].strip() for it in lines if it.startswith("new: ")]
-    return file, list(zip(old, new))
+    return list(zip(old, new))
 
 
 def place_of(said):
@@ -48,7 +47,7 @@ def main():
         if not refused.get(key):
             lost.append("/".join(key))
             continue
-        file, pairs = edit_of(path)
+        pairs = pairs_of(path)
         old, new = ("; ".join(code(it[at]) for it in pairs) for at in (0, 1))
         print(f"| {'/'.join(key)} | {old} | {new} | {refused[key]} |")
     if lost:
