@@ -269,8 +269,6 @@ MISTAKES = {
         ("a join has the larger limit",
          "min(first.limit, second.limit)",
          "max(first.limit, second.limit)"),
-        # No example shows this one: the one join whose first bank has the larger limit holds
-        # aspects, whose codes are small.
         ("a join has the first bank's limit",
          "min(first.limit, second.limit)",
          "first.limit"),
