@@ -15,13 +15,14 @@ use Rattle.collector.specs.Calls.{replace_by, take, perform, checked}
 use Rattle.collector.specs.Endless.{Endless, start, feed}
 use Rattle.collector.specs.Reach.{Reachable, ReachableIn, Free}
 use Rattle.collector.specs.Runs.{Event, next, outcome, final, outcomes, calls_of, Keeps, Admissible, Collection, beginning, onward_in, onward}
-use Rattle.collector.specs.Laws.{Grounded, lacks_by, lacks, fed_calls, Within, turns_for, Enough, NeverLacks, FreedExactly, Reclaims, EveryRunLawful, Safe, EveryStateSafe, Unharmed, RefusalsHarmless, Brief, CollectionsBrief}
+use Rattle.collector.specs.Laws.{Grounded, lacks_by, lacks, fed_calls, Within, turns_for, Enough, NeverLacks, FreedExactly, Reclaims, EveryRunLawful, Safe, EveryStateSafe, Unharmed, RefusalsHarmless, Brief, CollectionsBrief, FreeUntilTaken}
 use Rattle.collector.proofs.Sets.{few-below, each_at}
 use Rattle.collector.proofs.Chains.{listed-is}
 use Rattle.collector.proofs.Ceilings.{turns-bound}
-use Rattle.collector.proofs.Turn.{Used, live_now, free-is, in-sweep, turn-keeps}
+use Rattle.collector.proofs.Turn.{Used, live_now, free-is, in-sweep, turn-keeps, is_free}
 use Rattle.collector.proofs.Steps.{Field, car-field, cdr-field, replaced-is, take-lacks, take-takes, register-sound, step_keeps}
-use Rattle.collector.proofs.Start.{new-keeps, linked-length}
+use Rattle.collector.proofs.Start.{new-keeps, linked-length, linked-vacant}
+use Rattle.collector.proofs.Follow.{free-follows}
 use Rattle.collector.proofs.Moves.{turn-moves, next-fixed, next-size}
 use Rattle.collector.proofs.Collections.{collections-each}
 use Rattle.collector.proofs.Agree.{Agree, bound-carries}
@@ -125,6 +126,12 @@ safe {s = s} i =
 
 pub every_state_safe : {V : Type 0} → EveryStateSafe V
 every_state_safe fixed N g es = let r = run-keeps (beginning (new fixed N)) (new fixed N) (new-keeps fixed N g) es in safe r.1
+
+pub free_until_taken : {V : Type 0} → FreeUntilTaken V
+free_until_taken = record {
+  made = λ fixed N g n l. is_free (new-keeps fixed N g) n (linked-vacant 0 N n l);
+  kept = λ fixed N g es e. let r = run-keeps (beginning (new fixed N)) (new fixed N) (new-keeps fixed N g) es in free-follows r.1 e;
+}
 
 -- A call that lacks a cell made its turn, and nothing more.
 record Lost {V : Type 0} (s : State V) (a : After (State V) V) : Type 0 where

@@ -13,6 +13,7 @@ pub mod Turn
 pub mod Steps
 pub mod Start
 pub mod Moves
+pub mod Follow
 pub mod Agree
 pub mod Append
 pub mod Rewrite

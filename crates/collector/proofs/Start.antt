@@ -27,6 +27,10 @@ linked-at a zero n l = search rules
 linked-at a (suc k) zero l = search rules
 linked-at a (suc k) (suc n) l = search (rules, linked-at (suc a) k n (omega arith))
 
+-- Every one of them is vacant.
+pub linked-vacant : (a k n : ℕ) → n < k → Vacant (linked a k) n
+linked-vacant a k n l = ap (λ (c : Cell). c.cdr) (linked-at a k n l)
+
 links-new : (size n k : ℕ) → n + k ≡ size → Links (linked 0 size) (first_word n k) (range_with_len n k)
 links-new size n zero e = refl
 links-new size n (suc k) e = search (rules, linked-at 0 size n, links-new size (n + 1) k (omega arith))

@@ -16,7 +16,7 @@ use Rattle.collector.specs.Turns.{offer, work}
 use Rattle.collector.specs.Outcomes.{refuse, done, answer, register}
 use Rattle.collector.specs.Calls.{with_register, with_heap, with_pool, with_cells, load_if, unlinked, take, read_by, offer_in, write, replace_by, car_of, cdr_of, perform, checked}
 use Rattle.collector.specs.Reach.{Reachable, Free}
-use Rattle.collector.specs.Runs.{Event, next, Collection, onward_if, onward}
+use Rattle.collector.specs.Runs.{Event, next, Collection, makes_turn, onward_if, onward}
 use Rattle.collector.proofs.Cells.{reserved-within}
 use Rattle.collector.proofs.Sets.{each-get_or, each_set}
 use Rattle.collector.proofs.Same.{dones-marks, Grown, core-same, live_same, sound-map}
@@ -202,7 +202,7 @@ module _ {V : Type 0} {field : Cell → Word} {put : Word → Cell → Cell} (f 
 
 -- Each call keeps the invariant.
 module _ {V : Type 0} {c : Collection V} {s : State V} (i : Inv c s) where
-  names : (a n : ℕ) → register s.registers a ≡ Word.Cell n → Used i n
+  pub names : (a n : ℕ) → register s.registers a ≡ Word.Cell n → Used i n
   names a n e = subst (Sound s.fixed.atoms.limit (Used i)) e (register-sound i a)
 
   load-keeps : (b : Bool) (r code : ℕ) → leb code s.fixed.atoms.limit ≡ b → Inv c (load_if b r code s).state
@@ -229,7 +229,7 @@ take-keeps {V = V} {c = c} {s = s} i work r a b =
           rw t.3 (taken-keeps i t.0 t.1 t.2 (register s.registers a) (register s.registers b) (register-sound i a) (register-sound i b) r)
     ]
 
-pub perform-keeps : {V : Type 0} {c : Collection V} {s : State V} → Inv c s → (says : Bool) (k : Call V) → Inv (onward_if None k says s c) (perform says s k).state
+pub perform-keeps : {V : Type 0} {c : Collection V} {s : State V} → Inv c s → (says : Bool) (k : Call V) → Inv (onward_if (makes_turn None k) says s c) (perform says s k).state
 perform-keeps i says (Call.Load r v) = search load-keeps
 perform-keeps i says (Call.Clear r) = register-keeps i r Word.Nil tt
 perform-keeps i says (Call.Copy r a) = search (register-keeps, register-sound)
@@ -241,7 +241,7 @@ perform-keeps i says (Call.Rplacd a b) = search (replace-keeps, cdr-field)
 perform-keeps i says (Call.Look r) = i
 perform-keeps i says (Call.Same a b) = i
 
-checked-keeps : {V : Type 0} (o : Option ℕ) {c : Collection V} {s : State V} → Inv c s → (says : Bool) (k : Call V) → Inv (onward_if o k says s c) (checked o says s k).state
+checked-keeps : {V : Type 0} (o : Option ℕ) {c : Collection V} {s : State V} → Inv c s → (says : Bool) (k : Call V) → Inv (onward_if (makes_turn o k) says s c) (checked o says s k).state
 checked-keeps (Some r) i says k = i
 checked-keeps None i says k = perform-keeps i says k
 

@@ -10,7 +10,7 @@ use Rattle.collector.specs.States.{State}
 use Rattle.collector.specs.Turns.{turn, work}
 use Rattle.collector.specs.Outcomes.{After, register}
 use Rattle.collector.specs.Calls.{load_if, read_by, replace_by, take, car_of, cdr_of, perform, checked}
-use Rattle.collector.specs.Runs.{Event, next, outcome, Collection, onward_in, onward_if, onward}
+use Rattle.collector.specs.Runs.{Event, next, outcome, Collection, makes_turn, onward_in, onward_if, onward}
 use Rattle.collector.specs.Laws.{lacks}
 use Rattle.collector.proofs.Turn.{turn-keeps}
 use Rattle.collector.proofs.Steps.{take-takes}
@@ -41,7 +41,7 @@ pub data Goes {V : Type 0} (s : State V) (says : Bool) (c : Collection V) : Afte
   without-turn : {a : After (State V) V} → Still s a → Goes s says c a c
   with-turn : (i a b : ℕ) → Goes s says c (take (work s) i a b (turn says s)) (onward_in s.phase says s c)
 
-perform-goes : {V : Type 0} (s : State V) (says : Bool) (c : Collection V) (k : Call V) → Goes s says c (perform says s k) (onward_if None k says s c)
+perform-goes : {V : Type 0} (s : State V) (says : Bool) (c : Collection V) (k : Call V) → Goes s says c (perform says s k) (onward_if (makes_turn None k) says s c)
 perform-goes s says c (Call.Load i v) = without-turn (still-load s (leb (s.fixed.atoms.coded v) s.fixed.atoms.limit) i (s.fixed.atoms.coded v))
 perform-goes s says c (Call.Clear i) = without-turn (record { phase = refl; pool = refl; fixed = refl; waiting = λ e. e; served = refl })
 perform-goes s says c (Call.Copy i a) = without-turn (record { phase = refl; pool = refl; fixed = refl; waiting = λ e. e; served = refl })
@@ -53,7 +53,7 @@ perform-goes s says c (Call.Rplacd a b) = without-turn (still-replace s cdr_of w
 perform-goes s says c (Call.Look i) = without-turn (record { phase = refl; pool = refl; fixed = refl; waiting = λ e. e; served = refl })
 perform-goes s says c (Call.Same i j) = without-turn (record { phase = refl; pool = refl; fixed = refl; waiting = λ e. e; served = refl })
 
-checked-goes : {V : Type 0} (o : Option ℕ) (s : State V) (says : Bool) (c : Collection V) (k : Call V) → Goes s says c (checked o says s k) (onward_if o k says s c)
+checked-goes : {V : Type 0} (o : Option ℕ) (s : State V) (says : Bool) (c : Collection V) (k : Call V) → Goes s says c (checked o says s k) (onward_if (makes_turn o k) says s c)
 checked-goes (Some r) s says c k = without-turn (record { phase = refl; pool = refl; fixed = refl; waiting = λ e. e; served = refl })
 checked-goes None s says c k = perform-goes s says c k
 

@@ -1,15 +1,17 @@
 -- The laws of every run.
-use Rattle.std.specs.Prelude.{◌≡◌, ℕ, ◌+◌, ◌-◌, ◌/◌, ◌<◌, ◌≤◌, max, Bool, true, false, List, [], ◌∷◌, ◌++◌, map, length, Ok, Err}
+use Rattle.std.specs.Prelude.{◌≡◌, ℕ, ◌+◌, ◌-◌, ◌/◌, ◌<◌, ◌≤◌, max, Bool, true, false, if◌then◌else◌, ◌⊎◌, List, [], ◌∷◌, ◌++◌, map, length, Ok, Err}
+use Rattle.bank.specs.declared.word.Word.{Word}
 use Rattle.listcalls.specs.declared.call.Call.{Call}
 use Rattle.listcalls.specs.declared.call.Answer.{Answer}
 use Rattle.listcalls.specs.declared.fault.StoreFault.{StoreFault}
 use Rattle.listcalls.specs.declared.phase.Phase.{Phase}
 use Rattle.collector.specs.Lists.{Mem, Distinct, Each, AtMost}
 use Rattle.collector.specs.States.{State, Fixed, Atoms, size, at, new}
-use Rattle.collector.specs.Outcomes.{Outcome}
+use Rattle.collector.specs.Turns.{freed_in, turn}
+use Rattle.collector.specs.Outcomes.{Outcome, registers_of, absent}
 use Rattle.collector.specs.Endless.{Endless, start, feed}
 use Rattle.collector.specs.Reach.{Reachable, ReachableIn, Free, free_list}
-use Rattle.collector.specs.Runs.{Event, next, outcome, final, outcomes, calls_of, Keeps, Admissible, Ruled, Collection, collections}
+use Rattle.collector.specs.Runs.{Event, makes_turn, next, outcome, final, outcomes, calls_of, Keeps, Admissible, Ruled, Collection, collections}
 
 -- What the interfaces below a store promise: the bank's law, and the effort's bounds from below.
 pub record Grounded {V : Type 0} (fixed : Fixed V) (size : ℕ) : Type 0 where
@@ -100,7 +102,7 @@ NeverLacks fixed size cs os =
     → Each (λ o. lacks o ≡ false) os
 
 -- The three laws together, of the run of the given events from a new store.
-pub record Lawful {V : Type 0} (fixed : Fixed V) (size : ℕ) (es : List (Event V)) : Type 0 where
+pub record LawfulRun {V : Type 0} (fixed : Fixed V) (size : ℕ) (es : List (Event V)) : Type 0 where
   pub answers : AnswersEqual fixed.atoms (calls_of es) (outcomes (new fixed size) es)
   pub reclaims : Reclaims (new fixed size) es
   pub never_lacks : NeverLacks fixed size (calls_of es) (outcomes (new fixed size) es)
@@ -112,7 +114,7 @@ pub record RunOf {V : Type 0} (fixed : Fixed V) (size : ℕ) (calls : List (Call
   pub answered : outcomes (new fixed size) events ≡ os
   pub ended : final (new fixed size) events ≡ last
   pub admissible : Admissible (new fixed size) events
-  pub lawful : Lawful fixed size events
+  pub lawful : LawfulRun fixed size events
 
 -- The same under a start rule: the answers in the run are those that the rule gave, from what it was before to what it is after.
 pub record RuledRun {V R : Type 0} (says : R → ℕ → Bool) (becomes : R → ℕ → R → Type 0) (fixed : Fixed V) (size : ℕ) (rule : R) (calls : List (Call V)) (os : List (Outcome V)) (last : State V) (after : R) : Type 0 where
@@ -121,7 +123,7 @@ pub record RuledRun {V R : Type 0} (says : R → ℕ → Bool) (becomes : R → 
 
 -- They hold of every run, for any effort, any bank that keeps the law of banks, any start rule that keeps the law of start rules, any kind of atom and any list of calls.
 abbrev pub EveryRunLawful : Type 0 → Type 0
-EveryRunLawful V = (fixed : Fixed V) (size : ℕ) → Grounded fixed size → (es : List (Event V)) → Admissible (new fixed size) es → Lawful fixed size es
+EveryRunLawful V = (fixed : Fixed V) (size : ℕ) → Grounded fixed size → (es : List (Event V)) → Admissible (new fixed size) es → LawfulRun fixed size es
 
 -- A state in which no cell has two owners: what is reachable lies within the bank and is not free; the free list has each cell once, and as many as the count says; and while the sweep goes on, what is reachable from its place on is marked.
 pub record Safe {V : Type 0} (s : State V) : Type 0 where
@@ -134,6 +136,27 @@ pub record Safe {V : Type 0} (s : State V) : Type 0 where
 -- After every call of every run, since what begins a run is a run.
 abbrev pub EveryStateSafe : Type 0 → Type 0
 EveryStateSafe V = (fixed : Fixed V) (size : ℕ) → Grounded fixed size → (es : List (Event V)) → Safe (final (new fixed size) es)
+
+-- The cells that a call frees: those of its turn, if it makes one.
+abbrev pub freed_by : {V : Type 0} → State V → Call V → List ℕ
+freed_by s c = if makes_turn (absent (registers_of c)) c then freed_in s.phase s else []
+
+-- That a cell was taken: the call was answered with the work of a turn, after which the cell was the head of the free list.
+pub record Taken {V : Type 0} (o : Outcome V) (turned : State V) (n : ℕ) : Type 0 where
+  pub work : ℕ
+  pub answered : o ≡ Ok (Answer.Worked work)
+  pub head : turned.pool.head ≡ Word.Cell n
+
+-- The cells that are free after a call are those that were free before it or that its turn freed, but for the one that it took.
+pub record FreeFollows {V : Type 0} (s : State V) (e : Event V) : Type 0 where
+  pub only : (n : ℕ) → Free (next s e) n → (Free s n ⊎ Mem n (freed_by s e.call)) × (Taken (outcome s e) (turn e.says s) n → ⊥)
+  pub all : (n : ℕ) → Free s n ⊎ Mem n (freed_by s e.call) → (Taken (outcome s e) (turn e.says s) n → ⊥) → Free (next s e) n
+  pub was : (n : ℕ) → Taken (outcome s e) (turn e.says s) n → Free s n ⊎ Mem n (freed_by s e.call)
+
+-- So a cell is free from the making of the store, or from being freed, until it is taken.
+pub record FreeUntilTaken (V : Type 0) : Type 0 where
+  pub made : (fixed : Fixed V) (size : ℕ) → Grounded fixed size → (n : ℕ) → n < size → Free (new fixed size) n
+  pub kept : (fixed : Fixed V) (size : ℕ) → Grounded fixed size → (es : List (Event V)) (e : Event V) → FreeFollows (final (new fixed size) es) e
 
 -- What a refusal leaves: for want of a cell, the registers and the words of reachable cells; for any other cause, everything.
 pub record Unharmed {V : Type 0} (s : State V) (e : Event V) : Type 0 where

@@ -15,7 +15,7 @@ pub record After (S V : Type 0) : Type 0 where
   pub state : S
   pub outcome : Outcome V
 
--- A call that leaves everything as it was.
+-- A refusal, with the state that it leaves.
 abbrev pub refuse : {S V : Type 0} → S → StoreFault → After S V
 refuse s fault = record { state = s; outcome = Err fault }
 

@@ -1,5 +1,5 @@
 -- Runs: lists of calls from a new store, with what the start rule said, and the collections of a run.
-use Rattle.std.specs.Prelude.{◌≡◌, ℕ, ◌+◌, ◌≤◌, Bool, true, false, List, [], ◌∷◌, ◌++◌, map, Some, None, Option, nat_le}
+use Rattle.std.specs.Prelude.{◌≡◌, ℕ, ◌+◌, ◌≤◌, Bool, true, false, List, [], ◌∷◌, ◌++◌, map, Some, None, Option, ◌&&◌, nat_le}
 use Rattle.listcalls.specs.declared.call.Call.{Call}
 use Rattle.listcalls.specs.declared.phase.Phase.{Phase}
 use Rattle.collector.specs.States.{State}
@@ -42,22 +42,23 @@ is_idle Phase.Idle = true
 is_idle Phase.Mark = false
 is_idle Phase.Sweep = false
 
--- Whether a call asks the start rule: a cons whose registers are there does, on an idle store.
-abbrev pub asks_if : {V : Type 0} → Option ℕ → Call V → Phase → Bool
-asks_if (Some r) c phase = false
-asks_if None (Call.Load i v) phase = false
-asks_if None (Call.Clear i) phase = false
-asks_if None (Call.Copy i a) phase = false
-asks_if None (Call.Cons i a b) phase = is_idle phase
-asks_if None (Call.Car i a) phase = false
-asks_if None (Call.Cdr i a) phase = false
-asks_if None (Call.Rplaca a b) phase = false
-asks_if None (Call.Rplacd a b) phase = false
-asks_if None (Call.Look i) phase = false
-asks_if None (Call.Same i j) phase = false
+-- Whether a call makes a turn: a cons whose registers are there does, and no other call.
+abbrev pub makes_turn : {V : Type 0} → Option ℕ → Call V → Bool
+makes_turn (Some r) c = false
+makes_turn None (Call.Load i v) = false
+makes_turn None (Call.Clear i) = false
+makes_turn None (Call.Copy i a) = false
+makes_turn None (Call.Cons i a b) = true
+makes_turn None (Call.Car i a) = false
+makes_turn None (Call.Cdr i a) = false
+makes_turn None (Call.Rplaca a b) = false
+makes_turn None (Call.Rplacd a b) = false
+makes_turn None (Call.Look i) = false
+makes_turn None (Call.Same i j) = false
 
+-- Whether it asks the start rule: the turn of an idle store does.
 abbrev pub asks : {V : Type 0} → State V → Call V → Bool
-asks s c = asks_if (absent (registers_of c)) c s.phase
+asks s c = makes_turn (absent (registers_of c)) c && is_idle s.phase
 
 -- The start rule after a call: what it may become where it was asked with the count, and otherwise as it was.
 abbrev pub RuleAfter : {R : Type 0} → (R → ℕ → R → Type 0) → Bool → R → ℕ → R → Type 0
@@ -106,22 +107,13 @@ onward_in Phase.Sweep says s c = record {
   freed_cells = c.freed_cells ++ freed s.fixed.atoms.limit s.fixed.k2 (ground s);
 }
 
--- A cons whose registers are there makes a turn, and no other call does.
-abbrev pub onward_if : {V : Type 0} → Option ℕ → Call V → Bool → State V → Collection V → Collection V
-onward_if (Some r) call says s c = c
-onward_if None (Call.Load i v) says s c = c
-onward_if None (Call.Clear i) says s c = c
-onward_if None (Call.Copy i a) says s c = c
-onward_if None (Call.Cons i a b) says s c = onward_in s.phase says s c
-onward_if None (Call.Car i a) says s c = c
-onward_if None (Call.Cdr i a) says s c = c
-onward_if None (Call.Rplaca a b) says s c = c
-onward_if None (Call.Rplacd a b) says s c = c
-onward_if None (Call.Look i) says s c = c
-onward_if None (Call.Same i j) says s c = c
+-- A call without a turn leaves it as it is.
+abbrev pub onward_if : {V : Type 0} → Bool → Bool → State V → Collection V → Collection V
+onward_if true says s c = onward_in s.phase says s c
+onward_if false says s c = c
 
 abbrev pub onward : {V : Type 0} → State V → Event V → Collection V → Collection V
-onward s e c = onward_if (absent (registers_of e.call)) e.call e.says s c
+onward s e c = onward_if (makes_turn (absent (registers_of e.call)) e.call) e.says s c
 
 -- The collections of a run, with whether each finished: one is finished once a turn sets the phase to idle, and the last may be left unfinished.
 abbrev pub ended : {V : Type 0} → Phase → Phase → Collection V → List (Bool × Collection V) → List (Bool × Collection V)

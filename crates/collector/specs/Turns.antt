@@ -155,6 +155,12 @@ turn_in Phase.Sweep says s = swept s
 abbrev pub turn : {V : Type 0} → Bool → State V → State V
 turn says s = turn_in s.phase says s
 
+-- The cells that it frees.
+abbrev pub freed_in : {V : Type 0} → Phase → State V → List ℕ
+freed_in Phase.Idle s = []
+freed_in Phase.Mark s = []
+freed_in Phase.Sweep s = freed s.fixed.atoms.limit s.fixed.k2 (ground s)
+
 -- Its work: the cells popped or swept.
 abbrev pub work_in : {V : Type 0} → Phase → State V → ℕ
 work_in Phase.Idle s = 0

@@ -1,4 +1,4 @@
-// A list store and its collector, as definitions with laws over every run of them; no call runs here.
+//! A list store and its collector, as definitions with laws over every run of them; no call runs here.
 #![tactic(auto)]
 
 mod theorems;

@@ -6,11 +6,11 @@ use Rattle.atoms.specs.Zones.{zone_at, zone_code, zone_of, covered}
 use Rattle.atoms.specs.declared.aspect.Aspect.{Aspect}
 use Rattle.atoms.specs.declared.fault.ZoneFault.{ZoneFault}
 use Rattle.atoms.specs.declared.zone.Zone.{Zone}
-use Rattle.bank.specs.Words.{blank}
+use Rattle.bank.specs.Words.{blank, number_of}
 use Rattle.bank.specs.declared.word.Word.{Word}
 use Rattle.collector.specs.Calls.{call}
 use Rattle.listcalls.specs.Faults.{told as store_told}
-use Rattle.collector.specs.Outcomes.{Outcome}
+use Rattle.collector.specs.Outcomes.{Outcome, register}
 use Rattle.collector.specs.States.{Fixed, new}
 use Rattle.listcalls.specs.declared.call.Call.{Call}
 use Rattle.layers.specs.Joins.{joined}
@@ -39,16 +39,16 @@ abbrev pub covered_by : ℕ → Option Zone → List ℕ
 covered_by p (Some z) = bit (covered z p)
 covered_by p None = []
 
--- What a new store over a packed bank of one cell answers to the load of a zone: nothing, or the refusal.
+-- What a new store over a packed bank of one cell holds in register 0 once a zone is loaded into it: the code, or the refusal.
 abbrev pub packed_zones : Fixed Zone
 packed_zones = record { atoms = record { limit = packed_top; coded = zone_code; valued = zone_of }; floor = 1; k1 = 1; k2 = 1 }
 
-abbrev pub outcome_row : Outcome Zone → List ℕ
-outcome_row (Ok a) = []
-outcome_row (Err fault) = refusal (store_told fault)
+abbrev pub held_row : Outcome Zone → List Word → List ℕ
+held_row (Ok a) registers = number_of (register registers 0) ∷ []
+held_row (Err fault) registers = refusal (store_told fault)
 
 abbrev pub loaded : Option Zone → List ℕ
-loaded (Some z) = outcome_row (call false (new packed_zones 1) (Call.Load 0 z)).outcome
+loaded (Some z) = let after = call false (new packed_zones 1) (Call.Load 0 z) in held_row after.outcome after.state.registers
 loaded None = []
 
 -- An aspect by its kind, 0 to 2, and its seconds or its train; nothing where a code has none.
@@ -71,7 +71,7 @@ table =
     ∷ (code_or 0 0 (zone_at 0 0), 4 ∷ 0 ∷ 0 ∷ [])
     ∷ (covered_by 149 (zone_at 100 50), 1 ∷ [])
     ∷ (covered_by 150 (zone_at 100 50), 0 ∷ [])
-    ∷ (loaded (zone_at 4095 1), [])
+    ∷ (loaded (zone_at 4095 1), 268369921 ∷ [])
     ∷ (loaded (zone_at 4096 1), 2 ∷ 268435457 ∷ [])
     ∷ (packed (record { car = Word.Cell 1; cdr = Word.Nil; mark = true }) ∷ [], 1152921504875282433 ∷ [])
     ∷ (aspect_row (aspect_of 511), 1 ∷ 255 ∷ [])
