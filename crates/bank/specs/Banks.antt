@@ -4,7 +4,7 @@ use Rattle.bank.specs.declared.word.Word.{Word}
 use Rattle.bank.specs.declared.word.Cell.{Cell}
 use Rattle.bank.specs.declared.word.Change.{Change}
 use Rattle.bank.specs.declared.fault.BankFault.{BankFault}
-use Rattle.bank.specs.Words.{number_of, word_in, blank, with_car, with_cdr, with_mark, with_change}
+use Rattle.bank.specs.Words.{number_of, word_in, blank, with_change}
 
 -- The law of banks.
 pub record Sound (limit : ℕ) (cells : List Cell) : Type 0 where
@@ -31,9 +31,6 @@ writable limit cells n w = on_cell cells n (taken limit w (Ok (slice_index_or ce
 abbrev pub word_taken : ℕ → List Cell → ℕ → Word → Result (Unit {0}) BankFault
 word_taken limit cells n w = on_cell cells n (taken limit w (Ok tt))
 
-abbrev pub mark_taken : List Cell → ℕ → Result (Unit {0}) BankFault
-mark_taken cells n = on_cell cells n (Ok tt)
-
 -- Cell n replaced by its image under f; the cells as they are where there is no cell n.
 abbrev pub changed : (Cell → Cell) → List Cell → ℕ → List Cell
 changed f cells n = slice_set cells n (f (slice_index_or cells n blank))
@@ -49,6 +46,18 @@ change_taken limit cells n change = word_taken limit cells n (word_in change)
 abbrev pub change_put : ℕ → List Cell → ℕ → Change → List Cell
 change_put limit cells n change = word_put (λ _. with_change change) limit cells n (word_in change)
 
--- The three fields of a cell put in turn, each word where it fits.
+-- A word, or the one in its place where it does not fit.
+abbrev pub fitted : ℕ → Word → Word → Word
+fitted limit w below = if fits limit w then w else below
+
+-- A cell laid over another, each word where it fits.
+abbrev pub merged : ℕ → Cell → Cell → Cell
+merged limit c below = record {
+  car = fitted limit c.car below.car;
+  cdr = fitted limit c.cdr below.cdr;
+  mark = c.mark;
+}
+
+-- A whole cell put into cell n, each word where it fits.
 abbrev pub cell_put : ℕ → List Cell → ℕ → Cell → List Cell
-cell_put limit cells n c = changed (with_mark c.mark) (word_put with_cdr limit (word_put with_car limit cells n c.car) n c.cdr) n
+cell_put limit cells n c = changed (merged limit c) cells n

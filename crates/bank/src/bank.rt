@@ -5,8 +5,8 @@ ghost use Rattle.bank.specs.Banks.{Sound, asked, writable, change_taken, change_
 use super::fault::BankFault;
 use super::word::{Cell, Change, Word};
 
-// A list of cells and the largest number that a word of them may have. Neither the limit nor the number of cells ever changes.
-// That the limit stays is a clause of each step, here and above: it joins what was and what is, and no type says that.
+/// A list of cells and the largest number that a word of them may have. Neither the limit nor the number of cells ever changes.
+/// That the limit stays is a clause of each step, here and above: it joins what was and what is, and no type says that.
 pub trait Bank {
     ghost limit: { Self → ℕ };
 
@@ -23,7 +23,7 @@ pub trait Bank {
     fn cell(&self, n: u32) -> Result<Cell, BankFault>
         ensures { result ≡ asked (cells self.now) n };
 
-    // The cell n that the word may be put into, or the refusal that `set` gives.
+    /// The cell n that the word may be put into, or the refusal that `set` gives.
     #[inline(always)]
     fn writable(&self, n: u32, word: Word) -> Result<Cell, BankFault>
         ensures { result ≡ writable (limit self.now) (cells self.now) n word }
@@ -33,13 +33,14 @@ pub trait Bank {
         Ok(cell)
     }
 
-    // Makes a change to cell n, or refuses it and changes nothing.
+    /// Makes a change to cell n, or refuses it and changes nothing.
     fn set(&mut self, n: u32, change: Change) -> Result<(), BankFault>
         ensures answer { result ≡ change_taken (limit self.old) (cells self.old) n change }
         ensures after { cells self.new ≡ change_put (limit self.old) (cells self.old) n change }
         ensures fixed { limit self.new ≡ limit self.old };
 
-    // Sets the three fields of cell n, but for a word above the limit.
+    /// Sets the three fields of cell n, but for a word above the limit.
+    #[tactic(auto, using(crate::proofs::Laws::three_puts))]
     #[inline(always)]
     fn write_cell(&mut self, n: u32, cell: Cell)
         ensures after { cells self.new ≡ cell_put (limit self.old) (cells self.old) n cell }

@@ -1,9 +1,10 @@
 ghost use Rattle.std.specs.Prelude.{◌≡◌, Some};
 ghost use Rattle.bank.specs.Faults.{told, text_of_fault};
 
+use std::error::Error;
 use std::fmt;
 
-// Why a bank refuses: no cell has the number, or the number of the word lies above the limit.
+/// Why a bank refuses: no cell has the number, or the number of the word lies above the limit.
 #[derive(Clone, Copy, PartialEq, Eq, Debug)]
 pub enum BankFault {
     NoSuchCell(u32),
@@ -11,7 +12,7 @@ pub enum BankFault {
 }
 
 impl BankFault {
-    // The number by which reports name the refusal.
+    /// The number by which reports name the refusal.
     pub fn number(&self) -> u8
         ensures { result ≡ (told self.now).0 }
     {
@@ -32,3 +33,5 @@ impl fmt::Display for BankFault {
         }
     }
 }
+
+impl Error for BankFault {}

@@ -1,4 +1,4 @@
-// A bank of cells: what a word, a cell and a refusal are, and the interface that every memory and every layer implements.
+//! A bank of cells: what a word, a cell and a refusal are, and the interface that every memory and every layer implements.
 #![tactic(auto)]
 
 mod bank;
@@ -9,5 +9,5 @@ pub use bank::Bank;
 pub use fault::BankFault;
 pub use word::{Cell, Change, Word};
 
-// The most cells that a bank has.
+/// The most cells that a bank has.
 pub const MOST_CELLS: u32 = 4096;

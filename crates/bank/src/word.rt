@@ -4,8 +4,8 @@ ghost use Rattle.bank.specs.Banks.{taken};
 
 use super::fault::BankFault;
 
-// What a field of a cell holds. A cell is named by its number: a store has fixed memory of its own, and no call allocates.
-// `Reserved` stands only in the cdr of a cell that is free.
+/// What a field of a cell holds. A cell is named by its number: a store has fixed memory of its own, and no call allocates.
+/// `Reserved` stands only in the cdr of a cell that is free.
 #[derive(Clone, Copy, PartialEq, Eq, Debug)]
 pub enum Word {
     Nil,
@@ -21,7 +21,7 @@ pub struct Cell {
     pub mark: bool,
 }
 
-// One field of a cell, and what it is set to.
+/// One field of a cell, and what it is set to.
 #[derive(Clone, Copy, PartialEq, Eq, Debug)]
 pub enum Change {
     Car(Word),
@@ -40,7 +40,7 @@ impl Word {
         }
     }
 
-    // Refuses a word whose number lies above the limit.
+    /// Refuses a word whose number lies above the limit.
     #[inline(always)]
     pub fn within(&self, limit: u32) -> Result<(), BankFault>
         ensures { result ≡ taken limit self.now (Ok tt) }
@@ -54,7 +54,7 @@ impl Word {
 }
 
 impl Change {
-    // The word that comes into the cell; nil, which always fits, where none does.
+    /// The word that comes into the cell; nil, which always fits, where none does.
     #[inline(always)]
     pub fn word(self) -> Word
         ensures { result ≡ word_in self }
@@ -73,7 +73,7 @@ impl Cell {
         mark: false,
     };
 
-    // The cell with one field changed.
+    /// The cell with one field changed.
     pub fn with(self, change: Change) -> Cell
         ensures { result ≡ with_change change self }
     {

@@ -5,7 +5,7 @@ ghost use Rattle.chains.specs.Chains.{chain, chain_taken, placed, atoms_from};
 use bank::{Bank, BankFault, Cell, Word};
 use std::alloc::{AllocError, Global};
 
-// Writes the atoms as a chain into the cells from `from` on and gives the number of the next cell, or writes nothing.
+/// Writes the atoms as a chain into the cells from `from` on and gives the number of the next cell, or writes nothing.
 #[tactic(auto, using(crate::proofs::Chaining::of_writing))]
 pub fn write_chain<B: Bank>(bank: &mut B, from: u32, atoms: &[u32]) -> Result<u32, BankFault>
     ensures answer { result ≡ chain_taken (B.limit bank.old) (length (B.cells bank.old)) from atoms.now }
@@ -46,7 +46,8 @@ fn check_chain(limit: u32, size: u32, from: u32, atoms: &[u32]) -> Result<u32, B
     Ok(from + atoms.len() as u32)
 }
 
-// The atoms of the chain that begins in cell `start`.
+/// The atoms of the chain that begins in cell `start`, up to the first word that names no cell. A car that is no atom is passed,
+/// and no chain is followed for more steps than there are cells, since it may come back to itself.
 pub fn read_chain<B: Bank>(heap: Global, bank: &B, start: u32) -> Result<Vec<u32>, AllocError>
     ensures { IfOk result (λ v. v.items ≡ atoms_from (length (B.cells bank.now)) (B.cells bank.now) (Word.Cell start)) }
 {

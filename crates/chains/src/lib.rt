@@ -1,4 +1,4 @@
-// Chains of track zones in a bank: the text of a zone, and the cells of a chain.
+//! Chains of track zones in a bank: the text of a zone, and the cells of a chain.
 #![tactic(auto)]
 
 mod chain;

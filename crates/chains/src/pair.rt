@@ -5,15 +5,15 @@ use std::fmt;
 use std::num::ParseIntError;
 use std::str::FromStr;
 
-// The offset and the length of a zone, as the input writes them: any two of 16 bits, also where no track has the zone.
+/// The offset and the length of a zone, as the input writes them: any two of 16 bits, also where no track has the zone.
 #[derive(Clone, Copy)]
 pub struct ZonePair {
     offset: u16,
     length: u16,
 }
 
-// The text is no offset, plus sign and length.
-#[derive(Clone, Copy)]
+/// The text is no offset, plus sign and length.
+#[derive(Clone, Copy, PartialEq, Eq, Debug)]
 pub struct NotAPair;
 
 // By hand: a derive would need one more crate.

@@ -1,16 +1,17 @@
 -- What is seen through a hold, and that writing a place below changes nothing of it.
-use Rattle.std.proofs.Common.{◌≡◌, ℕ, zero, suc, ◌+◌, ◌/◌, ◌%◌, ◌<◌, true, ◌≢◌, Option, None, Some, List, [], ◌∷◌, length, get_or, set, replicate, sym, refl, ap, ◌∙◌, inl, inr, zero-add, arith}
+use Rattle.std.proofs.Common.{◌≡◌, ℕ, zero, suc, ◌+◌, ◌/◌, ◌%◌, ◌<◌, true, ◌≢◌, Option, None, Some, Ok, Err, if◌then◌else◌, nat_lt, List, [], ◌∷◌, length, get_or, set, replicate, sym, refl, ap, ◌∙◌, inl, inr, zero-add, arith}
 use Rattle.std.proofs.lemmas.Grind.{common_steps, get_or-set_at}
 use Rattle.std.proofs.lemmas.List.{length-set, get_or-set_same, get_or-set_other, get_or-replicate, ext_get_or}
-use Rattle.std.proofs.lemmas.Bool.{eq-eqb, ne_eqb, cases_eq}
+use Rattle.std.proofs.lemmas.Bool.{eq-eqb, ne_eqb, cases_eq, lt-ltb, le-ltb}
 use Rattle.bank.specs.declared.word.Word.{Word}
 use Rattle.bank.specs.declared.word.Cell.{Cell}
 use Rattle.bank.specs.declared.word.Change.{Change}
-use Rattle.bank.specs.Words.{blank, word_in, with_car, with_cdr, with_mark, with_change}
-use Rattle.bank.specs.Banks.{fits, changed, cell_put}
-use Rattle.bank.proofs.Laws.{changed-changed}
+use Rattle.bank.specs.declared.fault.BankFault.{BankFault}
+use Rattle.bank.specs.Words.{blank, word_in, with_change}
+use Rattle.bank.specs.Banks.{fits, fitted, merged, asked}
+use Rattle.bank.proofs.Laws.{asked-ok, on_cell-refused}
 use Rattle.layers.specs.declared.places.Kept.{Kept}
-use Rattle.layers.specs.Holds.{none_kept, kept_for, fitted, merged, seen_at, seen, held_from, held, spilled, evicted, length-held}
+use Rattle.layers.specs.Holds.{none_kept, kept_for, seen_at, seen, held_from, held, spilled, evicted, length-held}
 
 -- Cell by cell.
 get_or-from : (limit : ℕ) (places : List (Option Kept)) (k : ℕ) (below : List Cell) (n m : ℕ) → n < length below → m ≡ k + n → get_or (held_from limit places k below) n blank ≡ seen limit places m (get_or below n blank)
@@ -146,6 +147,13 @@ merged-same limit c = rw (fitted-same limit c.car, fitted-same limit c.cdr)
 merged-twice : (limit : ℕ) (kept below : Cell) → merged limit (merged limit kept below) below ≡ merged limit kept below
 merged-twice limit kept below = rw (fitted-twice limit kept.car below.car, fitted-twice limit kept.cdr below.cdr)
 
+-- A cell laid over one that is whole over a third is whole over the third.
+fitted-over : (limit : ℕ) (w kept below : Word) → fitted limit kept below ≡ kept → fitted limit (fitted limit w kept) below ≡ fitted limit w kept
+fitted-over limit w kept below e = grind (arith, common_steps)
+
+merged-over : (limit : ℕ) (c kept below : Cell) → merged limit kept below ≡ kept → merged limit (merged limit c kept) below ≡ merged limit c kept
+merged-over limit c kept below e = rw (fitted-over limit c.car kept.car below.car (ap (λ (x : Cell). x.car) e), fitted-over limit c.cdr kept.cdr below.cdr (ap (λ (x : Cell). x.cdr) e))
+
 merged-seen : (limit : ℕ) (p : Option Kept) (n : ℕ) (below : Cell) → merged limit (seen_at limit p n below) below ≡ seen_at limit p n below
 merged-seen limit None n below = merged-same limit below
 merged-seen limit (Some kept) n below = grind (arith, common_steps, merged-same limit below, merged-twice limit kept.cell below)
@@ -159,15 +167,43 @@ may-keep limit change places below n c fit h is =
     let whole = merged-seen limit (get_or places (n % 16) None) n x in
     cc
 
--- Three writes below, of the words that fit and of the mark, are one.
-pub cell_put-merged : (limit : ℕ) (c : Cell) (cells : List Cell) (n : ℕ) → cell_put limit cells n c ≡ changed (merged limit c) cells n
-cell_put-merged limit c cells n =
-    let car = with_car c.car in
-    let cdr = with_cdr c.cdr in
-    let mark = with_mark c.mark in
-    grind (arith, common_steps, changed-changed car cdr cells n, changed-changed (λ x. cdr (car x)) mark cells n, changed-changed car mark cells n, changed-changed cdr mark cells n)
+-- What is seen of a cell, with another laid over it, may be kept whole too.
+pub may-lay : (limit : ℕ) (cell : Cell) (places : List (Option Kept)) (below : List Cell) (n : ℕ) (c : Cell) → n < length below → c ≡ get_or (held limit places below) n blank → merged limit (merged limit cell c) (get_or below n blank) ≡ merged limit cell c
+may-lay limit cell places below n c h is =
+    let x = get_or below n blank in
+    let shows = get_or-held limit places below n h in
+    let whole = merged-seen limit (get_or places (n % 16) None) n x in
+    let same : merged limit c x ≡ c = cc in
+    merged-over limit cell c x same
 
 -- All places empty.
 pub none_kept-all : (places : List (Option Kept)) → length places ≡ 16 → ((k : ℕ) → k < 16 → get_or places k None ≡ None) → places ≡ none_kept
 unfolding none_kept
 none_kept-all places full empty = ext_get_or None places (replicate 16 None) full (λ k h. let l : k < 16 = omega arith in empty k l ∙ sym (get_or-replicate 16 k None None l))
+
+-- A whole cell put through a hold: c is seen of cell n, and d is the cell laid over it.
+module _ (limit : ℕ) (places : List (Option Kept)) (below : List Cell) (n : ℕ) (c : Cell) (there : Ok c ≡ asked (held limit places below) n) where
+  pub laid_here : n < length below
+  laid_here = omega (arith, (asked-ok (held limit places below) n c there).0, length-held limit places below)
+
+  pub laid_whole : (cell d : Cell) → d ≡ merged limit cell c → merged limit d (get_or below n blank) ≡ d
+  laid_whole cell d is = rw is (may-lay limit cell places below n c laid_here (asked-ok (held limit places below) n c there).1)
+
+  pub laid_kept : (cell d : Cell) (slots : List (Option Kept)) → d ≡ merged limit cell c → slots ≡ set places (n % 16) (kept_for n d)
+      → slots ≡ (if nat_lt n (length below) then set places (n % 16) (kept_for n (merged limit cell (get_or (held limit places below) n blank))) else places)
+  laid_kept cell d slots is e = rw (lt-ltb n (length below) laid_here, ← (asked-ok (held limit places below) n c there).1, ← is) e
+
+  pub laid_below : (after : List Cell) → after ≡ evicted limit (get_or places (n % 16) None) n below → after ≡ (if nat_lt n (length below) then evicted limit (get_or places (n % 16) None) n below else below)
+  laid_below after e = rw (lt-ltb n (length below) laid_here) e
+
+-- And where there is no cell n.
+pub unlaid : {A : Type 0} (limit : ℕ) (places : List (Option Kept)) (below : List Cell) (n : ℕ) (fault : BankFault) (x y : A) → Err fault ≡ asked (held limit places below) n → x ≡ (if nat_lt n (length below) then y else x)
+unlaid limit places below n fault x y e =
+    let past = (on_cell-refused (held limit places below) n (get_or (held limit places below) n blank) fault e).0 in
+    rw (le-ltb n (length below) (omega (arith, past, length-held limit places below))) refl
+
+-- What the write of a whole cell uses.
+pub ruleset of_laying = (laid_here, laid_whole, laid_below, unlaid)
+
+-- The cells seen are as many as those below.
+pub ruleset of_size = (length-held)

@@ -1,7 +1,7 @@
 -- A write through a join.
 use Rattle.std.proofs.Common.{◌≡◌, ℕ, ◌+◌, ◌-◌, ◌<◌, ◌≤◌, min, true, List, ◌++◌, length, get_or, take, drop, Ok, Result, sym, refl, ◌∙◌, arith}
 use Rattle.std.proofs.lemmas.Grind.{common_steps}
-use Rattle.std.proofs.lemmas.List.{length-take, length-append, get_or-take, get_or_append_left, get_or-append_right, set-append_left, set-append_right, take-append-drop, drop-set-lt}
+use Rattle.std.proofs.lemmas.List.{length-take, length-append, get_or-take, get_or_append_left, get_or-append_right, set-append_left, set-append_right, drop-set-lt}
 use Rattle.std.proofs.Math.Seq.{take-set-lt}
 use Rattle.std.proofs.lemmas.Bool.{leb-true, le-leb}
 use Rattle.bank.specs.declared.fault.BankFault.{BankFault}
@@ -9,7 +9,7 @@ use Rattle.bank.specs.declared.word.Cell.{Cell}
 use Rattle.bank.specs.declared.word.Change.{Change}
 use Rattle.bank.specs.Words.{number_of, blank, word_in, with_change}
 use Rattle.bank.specs.Banks.{on_cell, fits, change_taken, change_put, changed}
-use Rattle.bank.proofs.Laws.{on_cell-told, changed-past, word_taken-here}
+use Rattle.bank.proofs.Laws.{on_cell-told, changed-past, word_taken-here, three_puts}
 use Rattle.layers.specs.declared.join.Side.{Side}
 use Rattle.layers.specs.Joins.{joined, beyond, side_of}
 
@@ -69,7 +69,7 @@ append-changed_right : (f : Cell → Cell) (first second : List Cell) (n : ℕ) 
 append-changed_right f first second n l = rw (get_or-append_right first second (length first) n blank refl l) (sym (set-append_right first second (length first) n _ refl l))
 
 -- What a join shows after a change of a cell that it shows, and what it does not show.
-front-changed : (f : Cell → Cell) (first second first' second' : List Cell) (n : ℕ) → n < length (joined first second) → first' ++ second' ≡ changed f (first ++ second) n → (joined first' second' ≡ changed f (joined first second) n) × (first' ++ second' ≡ changed f (joined first second) n ++ beyond first second)
+front-changed : (f : Cell → Cell) (first second first' second' : List Cell) (n : ℕ) → n < length (joined first second) → first' ++ second' ≡ changed f (first ++ second) n → (joined first' second' ≡ changed f (joined first second) n) × (beyond first' second' ≡ beyond first second)
 unfolding joined beyond
 front-changed f first second first' second' n h is =
     let all = first ++ second in
@@ -77,19 +77,14 @@ front-changed f first second first' second' n h is =
     let same = get_or-take 4096 all n blank below in
     let front : take 4096 (first' ++ second') ≡ changed f (take 4096 all) n = rw (is, take-set-lt 4096 all n (f (get_or all n blank)) below, same) in
     let back : drop 4096 (first' ++ second') ≡ drop 4096 all = rw is (drop-set-lt 4096 all n _ below) in
-    (front, sym (take-append-drop 4096 (first' ++ second')) ∙ rw (front, back))
-
--- A refused change.
-pub both-kept : (first second inner : List Cell) → joined first second ≡ inner → first ++ second ≡ inner ++ beyond first second
-unfolding joined beyond
-both-kept first second inner is = rw (← is) (sym (take-append-drop 4096 (first ++ second)))
+    (front, back)
 
 -- A change made by way of the first or the second bank, each with its own limit.
 pub record Done (l m : ℕ) (change : Change) (first second first' second' : List Cell) (n : ℕ) (r : Result (Unit {0}) BankFault) : Type 0 where
   pub answer : r ≡ change_taken (min l m) (joined first second) n change
   pub after : joined first' second' ≡ change_put (min l m) (joined first second) n change
   pub front : first' ≡ change_put (min l m) first n change
-  pub both : first' ++ second' ≡ change_put (min l m) (joined first second) n change ++ beyond first second
+  pub past : beyond first' second' ≡ beyond first second
 
 pub done-first : (l m : ℕ) (change : Change) (first second first' : List Cell) (n i : ℕ) (r : Result (Unit {0}) BankFault) → InFirst first second n i → fits (min l m) (word_in change) ≡ true → r ≡ change_taken l first i change → first' ≡ change_put l first i change → Done l m change first second first' second n r
 done-first l m change first second first' n i r side fit answer after =
@@ -101,7 +96,7 @@ done-first l m change first second first' n i r side fit answer after =
       answer = rw (word_taken-here (min l m) (joined first second) n w side.shown fit) (answer ∙ rw side.at (word_taken-here l first n w side.here own));
       after = rw fit all.0;
       front = rw fit now;
-      both = rw fit all.1;
+      past = all.1;
     }
 
 pub done-second : (l m : ℕ) (change : Change) (first second second' : List Cell) (n i : ℕ) (r : Result (Unit {0}) BankFault) → InSecond first second n i → fits (min l m) (word_in change) ≡ true → r ≡ change_taken m second i change → second' ≡ change_put m second i change → Done l m change first second first second' n r
@@ -114,5 +109,11 @@ done-second l m change first second second' n i r side fit answer after =
       answer = rw (word_taken-here (min l m) (joined first second) n w side.shown fit) (answer ∙ rw side.at (word_taken-here m second (n - length first) w side.here own));
       after = rw fit all.0;
       front = rw fit (sym (changed-past (with_change change) first n side.past));
-      both = rw fit all.1;
+      past = all.1;
     }
+
+-- What the write of a whole cell uses.
+pub ruleset of_laying = (three_puts)
+
+-- How many cells a join shows.
+pub ruleset of_size = (length-joined)

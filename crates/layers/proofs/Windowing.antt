@@ -1,5 +1,5 @@
 -- A write through a window.
-use Rattle.std.proofs.Common.{◌≡◌, ℕ, ◌+◌, ◌-◌, ◌<◌, min, List, length, get_or, take, drop, Result, inl, inr, arith}
+use Rattle.std.proofs.Common.{◌≡◌, ℕ, ◌+◌, ◌-◌, ◌<◌, min, List, length, get_or, take, drop, Ok, Err, Result, inl, inr, sym, ◌∙◌, arith}
 use Rattle.std.proofs.lemmas.List.{length-take, length-drop, get_or-take, get_or-drop, take-append-drop, drop-drop, take-set-le, drop-set-lt, drop-set-add}
 use Rattle.std.proofs.Math.Seq.{take-set-lt}
 use Rattle.std.proofs.lemmas.Bool.{lt-ltb, cases_Bool}
@@ -7,7 +7,8 @@ use Rattle.bank.specs.declared.word.Cell.{Cell}
 use Rattle.bank.specs.declared.word.Change.{Change}
 use Rattle.bank.specs.declared.fault.BankFault.{BankFault}
 use Rattle.bank.specs.Words.{blank, word_in, with_change}
-use Rattle.bank.specs.Banks.{on_cell, fits, changed, change_put}
+use Rattle.bank.specs.Banks.{on_cell, fits, changed, change_put, merged, cell_put}
+use Rattle.bank.proofs.Laws.{on_cell-told, on_cell-refused, changed-past}
 use Rattle.layers.specs.Windows.{windowed, framed}
 
 pub length-windowed : (o l : ℕ) (cells : List Cell) → length (windowed o l cells) ≡ min l (length cells - o)
@@ -25,7 +26,7 @@ get_or-windowed o l cells n h = rw (get_or-take l (drop o cells) n blank (inside
 pub on_cell-windowed : {A : Type 0} (o l : ℕ) (cells : List Cell) (n : ℕ) (r : Result A BankFault) → n < length (windowed o l cells) → on_cell cells (o + n) r ≡ on_cell (windowed o l cells) n r
 on_cell-windowed o l cells n r h = rw (lt-ltb (o + n) (length cells) (inside o l cells n h).0, lt-ltb n (length (windowed o l cells)) h)
 
-changed-windowed : (o l : ℕ) (f : Cell → Cell) (cells : List Cell) (n : ℕ) → n < length (windowed o l cells) → windowed o l (changed f cells (o + n)) ≡ changed f (windowed o l cells) n
+pub changed-windowed : (o l : ℕ) (f : Cell → Cell) (cells : List Cell) (n : ℕ) → n < length (windowed o l cells) → windowed o l (changed f cells (o + n)) ≡ changed f (windowed o l cells) n
 unfolding windowed
 changed-windowed o l f cells n h = rw (drop-set-add o cells n (f (get_or cells (o + n) blank)), take-set-lt l (drop o cells) n (f (get_or cells (o + n) blank)) (inside o l cells n h).1, get_or-windowed o l cells n h)
 
@@ -34,7 +35,7 @@ pub framed-windowed : (o l : ℕ) (cells : List Cell) → framed o l cells (wind
 unfolding windowed framed
 framed-windowed o l cells = rw (← drop-drop l o cells, take-append-drop l (drop o cells), take-append-drop o cells)
 
-framed-changed : (o l : ℕ) (f : Cell → Cell) (cells : List Cell) (n : ℕ) → n < length (windowed o l cells) → framed o l cells (changed f (windowed o l cells) n) ≡ changed f cells (o + n)
+pub framed-changed : (o l : ℕ) (f : Cell → Cell) (cells : List Cell) (n : ℕ) → n < length (windowed o l cells) → framed o l cells (changed f (windowed o l cells) n) ≡ changed f cells (o + n)
 unfolding framed
 framed-changed o l f cells n h =
     let after = changed f cells (o + n) in
@@ -53,3 +54,26 @@ framed-put limit o l change cells n h =
       | inl t ↦ rw t (framed-changed o l (with_change change) cells n h)
       | inr t ↦ rw t (framed-windowed o l cells)
     ]
+
+-- A whole cell put through a window, where it has cell n.
+module _ (limit o l : ℕ) (cells after : List Cell) (n m : ℕ) (cell : Cell) (there : Ok m ≡ on_cell (windowed o l cells) n (Ok (o + n))) (put : after ≡ cell_put limit cells m cell) where
+  as_below : (n < length (windowed o l cells)) × (after ≡ changed (merged limit cell) cells (o + n))
+  as_below = let told = on_cell-told (windowed o l cells) n (o + n) m there in (told.0, rw told.1 at put)
+
+  pub whole_after : windowed o l after ≡ cell_put limit (windowed o l cells) n cell
+  whole_after = rw as_below.1 (changed-windowed o l (merged limit cell) cells n as_below.0)
+
+  pub whole_framed : after ≡ framed o l cells (cell_put limit (windowed o l cells) n cell)
+  whole_framed = as_below.1 ∙ sym (framed-changed o l (merged limit cell) cells n as_below.0)
+
+-- And where it has none.
+pub whole_past : (limit o l : ℕ) (cells : List Cell) (n : ℕ) (cell : Cell) (fault : BankFault) → Err fault ≡ on_cell (windowed o l cells) n (Ok (o + n)) → cells ≡ framed o l cells (cell_put limit (windowed o l cells) n cell)
+whole_past limit o l cells n cell fault e =
+    let past = (on_cell-refused (windowed o l cells) n (o + n) fault e).0 in
+    rw (changed-past (merged limit cell) (windowed o l cells) n past) (sym (framed-windowed o l cells))
+
+-- What the write of a whole cell uses.
+pub ruleset of_laying = (whole_after, whole_past)
+
+-- How many cells a window shows.
+pub ruleset of_size = (length-windowed)

@@ -1,9 +1,8 @@
 -- Cells kept in 16 places over a list of cells. Place i is for the cells n with n mod 16 = i; it keeps a cell with its row, n div 16.
 use Rattle.std.specs.Prelude.{◌≡◌, ℕ, suc, ◌+◌, ◌*◌, ◌/◌, ◌%◌, if◌then◌else◌, Option, None, Some, List, [], ◌∷◌, length, replicate, ◌==◌, slice_index_or, refl}
 use Rattle.std.proofs.Common.{ap}
-use Rattle.bank.specs.declared.word.Word.{Word}
 use Rattle.bank.specs.declared.word.Cell.{Cell}
-use Rattle.bank.specs.Banks.{Sound, fits, changed}
+use Rattle.bank.specs.Banks.{Sound, changed, merged}
 use Rattle.layers.specs.declared.hold.Hold.{Hold}
 use Rattle.layers.specs.declared.places.Kept.{Kept}
 
@@ -13,18 +12,6 @@ none_kept = replicate 16 None
 -- What the place of cell n keeps once the cell is in it.
 abbrev pub kept_for : ℕ → Cell → Option Kept
 kept_for n cell = Some (record { row = n / 16; cell = cell })
-
--- A kept word, or the word below where the kept one does not fit.
-abbrev pub fitted : ℕ → Word → Word → Word
-fitted limit kept below = if fits limit kept then kept else below
-
--- A kept cell laid over the cell below, word by word.
-abbrev pub merged : ℕ → Cell → Cell → Cell
-merged limit kept below = record {
-  car = fitted limit kept.car below.car;
-  cdr = fitted limit kept.cdr below.cdr;
-  mark = kept.mark;
-}
 
 -- What a place lets see of cell n, given the cell below.
 abbrev pub seen_at : ℕ → Option Kept → ℕ → Cell → Cell

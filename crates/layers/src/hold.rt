@@ -1,13 +1,13 @@
-ghost use Rattle.std.specs.Prelude.{◌≡◌, ◌%◌, ◌<◌, None, Option, length, is_ok, if◌then◌else◌, slice_index_or, slice_set};
+ghost use Rattle.std.specs.Prelude.{◌≡◌, ◌%◌, ◌<◌, None, Option, length, nat_lt, is_ok, if◌then◌else◌, slice_index_or, slice_set};
 ghost use Rattle.bank.specs.Words.{blank, with_change};
-ghost use Rattle.bank.specs.Banks.{change_taken, change_put};
+ghost use Rattle.bank.specs.Banks.{change_taken, change_put, cell_put, merged};
 ghost use Rattle.layers.specs.declared.places.Kept.{Kept};
-ghost use Rattle.layers.specs.Holds.{none_kept, kept_for, merged, hold_cells, spilled, evicted, sound-hold};
+ghost use Rattle.layers.specs.Holds.{none_kept, kept_for, hold_cells, spilled, evicted, sound-hold};
 
-use super::places::Places;
+use super::places::{Places, merge};
 use bank::{Bank, BankFault, Cell, Change};
 
-// Keeps written cells in 16 places, and writes one below only when another needs its place.
+/// Keeps written cells in 16 places, and writes one below only when another needs its place.
 #[derive(Drop)]
 pub struct Hold<B> {
     below: B,
@@ -15,6 +15,7 @@ pub struct Hold<B> {
 }
 
 impl<B: Bank> Hold<B> {
+    #[tactic(auto, using(crate::proofs::Holding::held_none))]
     pub fn new(below: B) -> Hold<B>
         ensures below { result.below ≡ below }
         ensures empty { result.places.slots ≡ none_kept }
@@ -34,7 +35,7 @@ impl<B: Bank> Hold<B> {
         (below, places)
     }
 
-    // Writes every kept cell below, by place.
+    /// Writes every kept cell below, by place.
     pub fn settle(&mut self)
         ensures same { hold_cells B.Bank.limit B.Bank.cells self.new ≡ hold_cells B.Bank.limit B.Bank.cells self.old }
         ensures below { B.Bank.cells self.new.below ≡ hold_cells B.Bank.limit B.Bank.cells self.old }
@@ -47,6 +48,7 @@ impl<B: Bank> Hold<B> {
     }
 
     // Empties the place of cell n, and writes below what it kept.
+    #[tactic(auto, unfolding(crate::specs::Holds::spilled))]
     fn spill(&mut self, n: u32)
         ensures below { B.Bank.cells self.new.below ≡ spilled (B.Bank.limit self.old.below) (slice_index_or self.old.places.slots (n % 16) None) (n % 16) (B.Bank.cells self.old.below) }
         ensures empty { self.new.places.slots ≡ slice_set self.old.places.slots (n % 16) None }
@@ -91,6 +93,7 @@ impl<B: Bank> Bank for Hold<B> {
 
     ghost sound = { λ s. sound-hold s.places.slots (B.Bank.sound s.below) };
 
+    #[tactic(auto, using(crate::proofs::Holding::of_size))]
     fn size(&self) -> u32 {
         self.below.size()
     }
@@ -115,5 +118,17 @@ impl<B: Bank> Bank for Hold<B> {
         let cell = self.writable(n, change.word())?;
         self.keep(n, cell.with(change));
         Ok(())
+    }
+
+    #[tactic(auto, using(crate::proofs::Holding::of_laying))]
+    fn write_cell(&mut self, n: u32, cell: Cell)
+        ensures after { hold_cells B.Bank.limit B.Bank.cells self.new ≡ cell_put (B.Bank.limit self.old.below) (hold_cells B.Bank.limit B.Bank.cells self.old) n cell }
+        ensures fixed { B.Bank.limit self.new.below ≡ B.Bank.limit self.old.below }
+        ensures kept { self.new.places.slots ≡ (if nat_lt n (length (B.Bank.cells self.old.below)) then slice_set self.old.places.slots (n % 16) (kept_for n (merged (B.Bank.limit self.old.below) cell (slice_index_or (hold_cells B.Bank.limit B.Bank.cells self.old) n blank))) else self.old.places.slots) }
+        ensures below { B.Bank.cells self.new.below ≡ (if nat_lt n (length (B.Bank.cells self.old.below)) then evicted (B.Bank.limit self.old.below) (slice_index_or self.old.places.slots (n % 16) None) n (B.Bank.cells self.old.below) else B.Bank.cells self.old.below) }
+    {
+        if let Ok(seen) = self.cell(n) {
+            self.keep(n, merge(self.word_limit(), cell, seen));
+        }
     }
 }

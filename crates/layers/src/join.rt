@@ -1,10 +1,10 @@
-ghost use Rattle.std.specs.Prelude.{◌≡◌, ◌++◌, length, Ok};
-ghost use Rattle.bank.specs.Banks.{on_cell, change_taken, change_put};
+ghost use Rattle.std.specs.Prelude.{◌≡◌, length, Ok};
+ghost use Rattle.bank.specs.Banks.{on_cell, change_taken, change_put, cell_put};
 ghost use Rattle.layers.specs.Joins.{join_cells, join_limit, beyond, side_of, sound-join};
 
 use bank::{Bank, BankFault, Cell, Change, MOST_CELLS};
 
-// The cells of two banks, one after the other: the first 4,096 in all.
+/// The cells of two banks, one after the other: the first 4,096 in all.
 #[derive(Drop)]
 pub struct Join<F, G> {
     first: F,
@@ -56,6 +56,7 @@ impl<F: Bank, G: Bank> Bank for Join<F, G> {
 
     ghost sound = { λ s. sound-join (F.Bank.sound s.first) (G.Bank.sound s.second) };
 
+    #[tactic(auto, using(crate::proofs::Joining::of_size))]
     fn size(&self) -> u32 {
         (self.first.size() + self.second.size()).min(MOST_CELLS)
     }
@@ -76,7 +77,7 @@ impl<F: Bank, G: Bank> Bank for Join<F, G> {
         ensures answer { result ≡ change_taken (join_limit F.Bank.limit G.Bank.limit self.old) (join_cells F.Bank.cells G.Bank.cells self.old) n change }
         ensures after { join_cells F.Bank.cells G.Bank.cells self.new ≡ change_put (join_limit F.Bank.limit G.Bank.limit self.old) (join_cells F.Bank.cells G.Bank.cells self.old) n change }
         ensures first { F.Bank.cells self.new.first ≡ change_put (join_limit F.Bank.limit G.Bank.limit self.old) (F.Bank.cells self.old.first) n change }
-        ensures both { F.Bank.cells self.new.first ++ G.Bank.cells self.new.second ≡ change_put (join_limit F.Bank.limit G.Bank.limit self.old) (join_cells F.Bank.cells G.Bank.cells self.old) n change ++ beyond (F.Bank.cells self.old.first) (G.Bank.cells self.old.second) }
+        ensures past { beyond (F.Bank.cells self.new.first) (G.Bank.cells self.new.second) ≡ beyond (F.Bank.cells self.old.first) (G.Bank.cells self.old.second) }
         ensures first_limit { F.Bank.limit self.new.first ≡ F.Bank.limit self.old.first }
         ensures second_limit { G.Bank.limit self.new.second ≡ G.Bank.limit self.old.second }
     {
@@ -87,5 +88,18 @@ impl<F: Bank, G: Bank> Bank for Join<F, G> {
             Side::First(m) => self.first.set(m, change),
             Side::Second(m) => self.second.set(m, change),
         }
+    }
+
+    #[tactic(auto, using(crate::proofs::Joining::of_laying))]
+    fn write_cell(&mut self, n: u32, cell: Cell)
+        ensures after { join_cells F.Bank.cells G.Bank.cells self.new ≡ cell_put (join_limit F.Bank.limit G.Bank.limit self.old) (join_cells F.Bank.cells G.Bank.cells self.old) n cell }
+        ensures first { F.Bank.cells self.new.first ≡ cell_put (join_limit F.Bank.limit G.Bank.limit self.old) (F.Bank.cells self.old.first) n cell }
+        ensures past { beyond (F.Bank.cells self.new.first) (G.Bank.cells self.new.second) ≡ beyond (F.Bank.cells self.old.first) (G.Bank.cells self.old.second) }
+        ensures first_limit { F.Bank.limit self.new.first ≡ F.Bank.limit self.old.first }
+        ensures second_limit { G.Bank.limit self.new.second ≡ G.Bank.limit self.old.second }
+    {
+        let _ = self.set(n, Change::Car(cell.car));
+        let _ = self.set(n, Change::Cdr(cell.cdr));
+        let _ = self.set(n, Change::Mark(cell.mark));
     }
 }

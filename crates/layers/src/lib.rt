@@ -1,4 +1,4 @@
-// Layers over banks. Each holds the bank below by value and is a bank again.
+//! Layers over banks. Each holds the bank below by value and is a bank again.
 #![tactic(auto)]
 
 mod hold;

@@ -1,16 +1,17 @@
 ghost use Rattle.std.specs.Prelude.{◌≡◌, ◌+◌, ◌*◌, ◌/◌, ◌%◌, ◌<◌, ◌==◌, None, slice_index_or, slice_set};
-ghost use Rattle.layers.specs.Holds.{none_kept, kept_for, fitted, merged, seen};
+ghost use Rattle.bank.specs.Banks.{fitted, merged};
+ghost use Rattle.layers.specs.Holds.{none_kept, kept_for, seen};
 
 use bank::{Cell, Word};
 
-// A kept cell with its row: that of cell n is n / 16.
+/// A kept cell with its row: that of cell n is n / 16.
 #[derive(Clone, Copy, PartialEq, Eq, Debug)]
 pub struct Kept {
     row: u8,
     pub(super) cell: Cell,
 }
 
-// Place i is for the cells whose number leaves i on division by 16.
+/// Place i is for the cells whose number leaves i on division by 16.
 #[derive(Clone, Copy, PartialEq, Eq, Debug)]
 pub struct Places {
     slots: [Option<Kept>; 16],
@@ -33,7 +34,8 @@ impl Kept {
 }
 
 impl Places {
-    pub fn empty() -> Places
+    #[tactic(auto, unfolding(crate::specs::Holds::none_kept))]
+    pub(super) fn empty() -> Places
         ensures { result.slots ≡ none_kept }
     {
         Places { slots: [None; 16] }
@@ -65,7 +67,7 @@ impl Places {
         });
     }
 
-    // What is seen of cell n, given the cell below.
+    /// What is seen of cell n, given the cell below.
     pub fn over(&self, limit: u32, n: u32, below: Cell) -> Cell
         ensures { result ≡ seen limit self.now.slots n below }
     {
@@ -76,18 +78,19 @@ impl Places {
     }
 }
 
-fn merge(limit: u32, kept: Cell, below: Cell) -> Cell
-    ensures { result ≡ merged limit kept below }
+// A cell laid over another, each word where it fits.
+pub(super) fn merge(limit: u32, cell: Cell, below: Cell) -> Cell
+    ensures { result ≡ merged limit cell below }
 {
     Cell {
-        car: fit(limit, kept.car, below.car),
-        cdr: fit(limit, kept.cdr, below.cdr),
-        mark: kept.mark,
+        car: fit(limit, cell.car, below.car),
+        cdr: fit(limit, cell.cdr, below.cdr),
+        mark: cell.mark,
     }
 }
 
-fn fit(limit: u32, kept: Word, below: Word) -> Word
-    ensures { result ≡ fitted limit kept below }
+fn fit(limit: u32, word: Word, below: Word) -> Word
+    ensures { result ≡ fitted limit word below }
 {
-    if kept.number() <= limit { kept } else { below }
+    if word.number() <= limit { word } else { below }
 }

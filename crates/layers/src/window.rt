@@ -1,10 +1,10 @@
 ghost use Rattle.std.specs.Prelude.{◌≡◌, ◌+◌, ◌<◌, ◌≤◌, length, Ok};
-ghost use Rattle.bank.specs.Banks.{on_cell, change_taken, change_put};
+ghost use Rattle.bank.specs.Banks.{on_cell, change_taken, change_put, cell_put};
 ghost use Rattle.layers.specs.Windows.{window_cells, framed, sound-window};
 
 use bank::{Bank, BankFault, Cell, Change};
 
-// The cells of the bank below from `offset` on, at most `len` of them, numbered from 0.
+/// The cells of the bank below from `offset` on, at most `len` of them, numbered from 0.
 #[derive(Drop)]
 pub struct Window<B> {
     below: B,
@@ -51,6 +51,7 @@ impl<B: Bank> Bank for Window<B> {
 
     ghost sound = { λ s. sound-window s.offset s.len (B.Bank.sound s.below) };
 
+    #[tactic(auto, using(crate::proofs::Windowing::of_size))]
     fn size(&self) -> u32
         ensures value { result ≡ length (window_cells B.Bank.cells self.now) }
         ensures inside { 0 < result → self.now.offset + result ≤ 4096 }
@@ -78,5 +79,18 @@ impl<B: Bank> Bank for Window<B> {
     {
         let m = self.number_below(n)?;
         self.below.set(m, change)
+    }
+
+    #[tactic(auto, using(crate::proofs::Windowing::of_laying))]
+    fn write_cell(&mut self, n: u32, cell: Cell)
+        ensures after { window_cells B.Bank.cells self.new ≡ cell_put (B.Bank.limit self.old.below) (window_cells B.Bank.cells self.old) n cell }
+        ensures fixed { B.Bank.limit self.new.below ≡ B.Bank.limit self.old.below }
+        ensures framed { B.Bank.cells self.new.below ≡ framed self.old.offset self.old.len (B.Bank.cells self.old.below) (cell_put (B.Bank.limit self.old.below) (window_cells B.Bank.cells self.old) n cell) }
+        ensures offset { self.new.offset ≡ self.old.offset }
+        ensures len { self.new.len ≡ self.old.len }
+    {
+        if let Ok(m) = self.number_below(n) {
+            self.below.write_cell(m, cell);
+        }
     }
 }

@@ -1,4 +1,3 @@
 mod Fields
 mod Fronts
-mod Records
 mod Writes

@@ -1,15 +1,16 @@
 -- A memory of any elements, when it is cleared, read and changed.
-use Rattle.std.proofs.Common.{◌≡◌, ℕ, ◌<◌, min, true, List, ◌++◌, map, length, take, drop, get_or, set, replicate, Ok, Err, sym, ap, ◌∙◌, subst, arith}
+use Rattle.std.proofs.Common.{◌≡◌, ℕ, ◌<◌, min, true, List, ◌++◌, map, length, take, drop, get_or, set, replicate, Ok, Err, if◌then◌else◌, nat_lt, sym, ap, ◌∙◌, subst, arith}
 use Rattle.std.proofs.lemmas.Grind.{common_steps}
+use Rattle.std.proofs.lemmas.Bool.{lt-ltb}
 use lib.LanesLaws.{map-replicate}
 use Rattle.std.proofs.lemmas.List.{length-map, length-set, map-set, get_or-map}
 use Rattle.bank.specs.declared.word.Cell.{Cell}
 use Rattle.bank.specs.declared.word.Change.{Change}
 use Rattle.bank.specs.declared.word.Word.{Word}
 use Rattle.bank.specs.declared.fault.BankFault.{BankFault}
-use Rattle.bank.specs.Words.{blank, word_in, with_car, with_cdr, with_mark, with_change}
-use Rattle.bank.specs.Banks.{fits, asked, writable, changed, change_taken, change_put, cell_put}
-use Rattle.bank.proofs.Laws.{on_cell-here, writable-ok, put-here, put_refused, changed-changed}
+use Rattle.bank.specs.Words.{blank, word_in, with_change}
+use Rattle.bank.specs.Banks.{fits, asked, writable, change_taken, change_put, merged, cell_put}
+use Rattle.bank.proofs.Laws.{on_cell-here, writable-ok, put-here, put_refused}
 use Rattle.memory.specs.Memories.{front, cleared, shown, stored, Packed}
 use Rattle.memory.specs.Elements.{fitted}
 use Rattle.memory.proofs.Fronts.{length_front, within-front, front-set, set-over, get_or-front, front-cleared, filled}
@@ -112,25 +113,31 @@ module _ {X : Type 0} (shows : X → Cell) (limit : ℕ) (m : List X) (n : ℕ) 
       let new = value ∙ ap stores read in
       rw (sym new) at (packed-set shows stores m _ (ap shows (sym new) ∙ back ∙ read) n was)
 
--- A cell put whole, each word where it fits, is one change.
-cell_put-fitted : (limit : ℕ) (cells : List Cell) (n : ℕ) (c : Cell) → cell_put limit cells n c ≡ changed (λ x. fitted limit (Change.Mark c.mark) (fitted limit (Change.Cdr c.cdr) (fitted limit (Change.Car c.car) x))) cells n
-cell_put-fitted limit cells n c =
-    let car = with_car c.car in
-    let cdr = with_cdr c.cdr in
-    let mark = with_mark c.mark in
-    grind (arith, common_steps, changed-changed car cdr cells n, changed-changed (λ x. cdr (car x)) mark cells n, changed-changed car mark cells n, changed-changed cdr mark cells n)
+-- Three changes of a cell, each where its word fits, lay another over it.
+fitted-merged : (limit : ℕ) (c x : Cell) → fitted limit (Change.Mark c.mark) (fitted limit (Change.Cdr c.cdr) (fitted limit (Change.Car c.car) x)) ≡ merged limit c x
+fitted-merged limit c x = grind (arith, common_steps)
 
 -- A bank that puts a whole cell: the element x is what the three changes make of that of cell n.
 module _ {X : Type 0} (shows : X → Cell) (m : List X) (n : ℕ) where
+  whole_shown : (limit : ℕ) (c : Cell) (x y z d : X) → n < length (shown shows m)
+      → shows y ≡ fitted limit (Change.Car c.car) (shows (get_or m n d)) → shows z ≡ fitted limit (Change.Cdr c.cdr) (shows y) → shows x ≡ fitted limit (Change.Mark c.mark) (shows z)
+      → shows x ≡ merged limit c (get_or (shown shows m) n blank)
+  whole_shown limit c x y z d here car cdr mark =
+      let read = get_or-shown shows m n d (rw (length-shown shows m) at here) in
+      mark
+      ∙ ap (fitted limit (Change.Mark c.mark)) (cdr ∙ ap (fitted limit (Change.Cdr c.cdr)) (car ∙ ap (fitted limit (Change.Car c.car)) read))
+      ∙ fitted-merged limit c (get_or (shown shows m) n blank)
+
   pub whole_after : (limit : ℕ) (c : Cell) (x y z d : X) → n < length (shown shows m)
       → shows y ≡ fitted limit (Change.Car c.car) (shows (get_or m n d)) → shows z ≡ fitted limit (Change.Cdr c.cdr) (shows y) → shows x ≡ fitted limit (Change.Mark c.mark) (shows z)
       → shown shows (set m n x) ≡ cell_put limit (shown shows m) n c
-  whole_after limit c x y z d here car cdr mark =
-      let read = get_or-shown shows m n d (rw (length-shown shows m) at here) in
-      shown-set shows m n x
-      ∙ ap (set (shown shows m) n)
-      (mark ∙ ap (fitted limit (Change.Mark c.mark)) (cdr ∙ ap (fitted limit (Change.Cdr c.cdr)) (car ∙ ap (fitted limit (Change.Car c.car)) read)))
-      ∙ sym (cell_put-fitted limit (shown shows m) n c)
+  whole_after limit c x y z d here car cdr mark = shown-set shows m n x ∙ ap (set (shown shows m) n) (whole_shown limit c x y z d here car cdr mark)
+
+  pub whole_stored : (stores : Cell → X) (limit : ℕ) (c : Cell) (x y z d : X) → n < length (shown shows m) → stores (shows x) ≡ x
+      → shows y ≡ fitted limit (Change.Car c.car) (shows (get_or m n d)) → shows z ≡ fitted limit (Change.Cdr c.cdr) (shows y) → shows x ≡ fitted limit (Change.Mark c.mark) (shows z)
+      → set m n x ≡ (if nat_lt n (length (shown shows m)) then stored (stores (merged limit c (get_or (shown shows m) n blank))) m n else m)
+  whole_stored stores limit c x y z d here kept car cdr mark =
+      rw (lt-ltb n (length (shown shows m)) here, ← whole_shown limit c x y z d here car cdr mark, kept) (set-over m n x (rw (length-shown shows m) at here))
 
   pub whole_packed : (stores : Cell → X) (x : X) → stores (shows x) ≡ x → Packed shows stores m → Packed shows stores (set m n x)
   whole_packed stores x kept was = rw kept at (packed-set shows stores m (shows x) (ap shows kept) n was)
@@ -148,4 +155,4 @@ module _ (cells : List Cell) (limit n : ℕ) (w : Word) (d : Change) (fault : Ba
   refused_after = (put_refused (λ _. with_change d) limit cells n (word_in d) fault (rw is at refused)).1
 
 -- What the methods of a bank use.
-pub ruleset of_memory = (shown_length, within_shown, asked_shown, may_write, may_fit, may_keep, kept_shown, change_after, change_stored, change_packed, whole_after, whole_packed, size_set, refused_answer, refused_after)
+pub ruleset of_memory = (shown_length, within_shown, asked_shown, may_write, may_fit, may_keep, kept_shown, change_after, change_stored, change_packed, whole_after, whole_stored, whole_packed, size_set, refused_answer, refused_after)

@@ -1,13 +1,13 @@
-ghost use Rattle.std.specs.Prelude.{◌≡◌, min, length, replicate, is_ok, if◌then◌else◌, slice_index_or};
+ghost use Rattle.std.specs.Prelude.{◌≡◌, min, length, replicate, is_ok, nat_lt, if◌then◌else◌, slice_index_or};
 ghost use Rattle.bank.specs.Words.{blank, with_change};
-ghost use Rattle.bank.specs.Banks.{change_taken, change_put};
+ghost use Rattle.bank.specs.Banks.{change_taken, change_put, cell_put, merged};
 ghost use Rattle.memory.specs.Memories.{cleared, shown, stored, Packed};
 ghost use Rattle.memory.specs.Elements.{fitted, sound-memory};
 
 use super::element::Element;
 use bank::{Bank, BankFault, Cell, Change, MOST_CELLS};
 
-// A bank over lent memory, a cell in each element: at most the first 4,096, and later ones are never touched. Each of these stores the cell that it shows, and nothing more.
+/// A bank over lent memory, a cell in each element: at most the first 4,096, and later ones are never touched. Each of these stores the cell that it shows, and nothing more.
 #[derive(Drop)]
 pub struct LentBank<'a, E: Element> {
     memory: &'a mut [E],
@@ -17,10 +17,10 @@ pub struct LentBank<'a, E: Element> {
     pub ghost packed: { Packed E.shows E.stores memory.now },
 }
 
-// Its elements are packed cells.
+/// Its elements are packed cells.
 pub type PackedBank<'a> = LentBank<'a, u64>;
 
-// Its elements are the cells themselves.
+/// Its elements are the cells themselves.
 pub type RecordBank<'a> = LentBank<'a, Cell>;
 
 #[tactic(auto, using(crate::proofs::Writes::of_clearing))]
@@ -82,7 +82,11 @@ impl<'a, E: Element> Bank for LentBank<'a, E> {
 
     // The element is read and stored once.
     #[inline(always)]
-    fn write_cell(&mut self, n: u32, cell: Cell) {
+    fn write_cell(&mut self, n: u32, cell: Cell)
+        ensures after { shown E.shows self.new.memory.now ≡ cell_put E.LIMIT (shown E.shows self.old.memory.now) n cell }
+        ensures stored { self.new.memory.now ≡ (if nat_lt n (length (shown E.shows self.old.memory.now)) then stored (E.stores (merged E.LIMIT cell (slice_index_or (shown E.shows self.old.memory.now) n blank))) self.old.memory.now n else self.old.memory.now) }
+        ensures lent { self.new.memory.ghost_name ≡ self.old.memory.ghost_name }
+    {
         if n < self.size() {
             let element = self.memory[n as usize];
             let element = fitted(element, Change::Car(cell.car));

@@ -1,4 +1,4 @@
-// Banks over lent memory, one cell to an element.
+//! Banks over lent memory, one cell to an element.
 #![tactic(auto)]
 
 mod element;

@@ -5,10 +5,10 @@ ghost use Rattle.memory.specs.Packing.{packed_top, above, field_of, kind_of, wor
 
 use bank::{BankFault, Cell, Word};
 
-// The largest number that a packed word holds.
+/// The largest number that a packed word holds.
 pub const LIMIT: u32 = 268_435_455;
 
-// The packed cell, or the refusal of its first word that is too wide.
+/// The packed cell, or the refusal of its first word that is too wide.
 #[tactic(auto, using(crate::proofs::Fields::of_packing))]
 pub fn pack(cell: Cell) -> Result<u64, BankFault>
     ensures value { result ≡ packing cell }
@@ -27,7 +27,7 @@ fn check(cell: Cell) -> Result<(), BankFault>
     cell.cdr.within(LIMIT)
 }
 
-// The cell that the bits hold; those above the mark say nothing.
+/// The cell that the bits hold; those above the mark say nothing.
 #[inline(always)]
 pub fn unpack(bits: u64) -> Cell
     ensures { result ≡ unpacked bits }

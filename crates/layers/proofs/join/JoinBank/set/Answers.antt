@@ -1,8 +1,8 @@
 use Rattle.std.proofs.Common.{◌≤◌, min, length, rules, arith}
 use Rattle.bank.specs.Words.{word_in, with_change}
-use Rattle.bank.proofs.Laws.{taken-told, taken_refused, on_cell-refused, put-past}
+use Rattle.bank.proofs.Laws.{taken-told, on_cell-refused, put-past}
 use Rattle.layers.specs.Joins.{joined, side_of}
-use Rattle.layers.proofs.Joining.{length-joined, in-first, in-second, both-kept, done-first, done-second}
+use Rattle.layers.proofs.Joining.{length-joined, in-first, in-second, done-first, done-second}
 use Rattle.layers.proofs.join.JoinBank.set.Goals as goal
 
 pub returns-in_err-side : goal.returns-in_err-side
@@ -17,15 +17,7 @@ returns-in_err-side g c =
     let past : length first ≤ n = omega (arith, told.0, length-joined first second, (g.F.Bank.sound s.first).few) in
     let here = put-past (λ _. with_change c.args.change) limit first n w past in
     let same = put-past (λ _. with_change c.args.change) limit (joined first second) n w told.0 in
-    let both = both-kept first second _ same in
     search rules
-
-pub returns-in_err-within-clause-both : goal.returns-in_err-within-clause-both
-returns-in_err-within-clause-both g c =
-    let s = c.args.self.now in
-    let limit = min (g.F.Bank.limit s.first) (g.G.Bank.limit s.second) in
-    let wide = taken_refused limit (word_in c.args.change) (tt {0}) c.in_err-within.field-0.0 (rw (← c.word_limit.ensures, ← c.word.ensures) c.in_err-within.ensures) in
-    both-kept (g.F.Bank.cells s.first) (g.G.Bank.cells s.second) _ (rw wide.0)
 
 pub returns-in-First : goal.returns-in-First
 returns-in-First g c =
