@@ -1,7 +1,7 @@
 -- What a kind of atom is: two maps between values and codes, and their law.
 use Rattle.std.specs.Prelude.{◌≡◌, ◌↔◌, ℕ, ◌^◌, ◌<◌, Some, Option}
 
-pub record Lawful {V : Type 0} (coded : V → ℕ) (valued : ℕ → Option V) : Type 0 where
+pub record LawfulKind {V : Type 0} (coded : V → ℕ) (valued : ℕ → Option V) : Type 0 where
   -- the code of v has the value v
   pub reads : (v : V) → valued (coded v) ≡ Some v
   -- a code with the value v is the code of v

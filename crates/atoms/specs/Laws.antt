@@ -8,7 +8,7 @@ use Rattle.std.proofs.lemmas.Nat.{div-mul-add, mod-mul-add, mod_below}
 use mathlib.Core.HLevel.{is_prop→PathP}
 use Rattle.atoms.specs.Aspects.{aspect_code, aspect_of, low_byte}
 use Rattle.atoms.specs.Bounds.{IsZone}
-use Rattle.atoms.specs.Kinds.{Lawful}
+use Rattle.atoms.specs.Kinds.{LawfulKind}
 use Rattle.atoms.specs.Zones.{dec_zone, zone_if, zone_at, zone_code, zone_of}
 use Rattle.atoms.specs.declared.aspect.Aspect.{Aspect}
 use Rattle.atoms.specs.declared.aspect.Aspect.TheVariants.{Clear, Hold, Occupied}
@@ -26,10 +26,10 @@ zone_at-parts z = zone_if-parts z (dec_zone z.offset z.length)
     zone_if-parts z (no f) = absurd (f z.fits)
 
 -- a code that a value has is read as that value
-pub has_value : {V : Type 0} {coded : V → ℕ} {valued : ℕ → Option V} → Lawful coded valued → (v : V) (c : ℕ) → c ≡ coded v → Some v ≡ valued c
+pub has_value : {V : Type 0} {coded : V → ℕ} {valued : ℕ → Option V} → LawfulKind coded valued → (v : V) (c : ℕ) → c ≡ coded v → Some v ≡ valued c
 has_value {valued = valued} law v c e = sym (ap valued e ∙ law.reads v)
 
-pub zones-law : Lawful zone_code zone_of
+pub zones-law : LawfulKind zone_code zone_of
 zones-law = record {
   reads = λ z.
       let small : z.length < 65536 = omega arith in
@@ -55,7 +55,7 @@ only-aspect c v e = grind (arith, nat_tests)
 range-aspect : (v : Aspect) → aspect_code v < 2 ^ 32
 range-aspect v = grind arith
 
-pub aspects-law : Lawful aspect_code aspect_of
+pub aspects-law : LawfulKind aspect_code aspect_of
 aspects-law = record {
   reads = reads-aspect;
   only = only-aspect;

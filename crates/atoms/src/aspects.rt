@@ -1,4 +1,4 @@
-// The kind whose values are aspects: the upper bits of the code tell the aspect, the lowest 8 its number.
+//! The kind whose values are aspects: the upper bits of the code tell the aspect, the lowest 8 its number.
 ghost use Rattle.atoms.specs.Aspects.{aspect_code, aspect_of};
 ghost use Rattle.atoms.specs.Laws.{aspects-law};
 

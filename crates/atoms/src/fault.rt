@@ -1,7 +1,8 @@
-// Why no zone was made.
+//! Why no zone was made.
 ghost use Rattle.std.specs.Prelude.{◌≡◌, Some};
 ghost use Rattle.atoms.specs.Refusals.{told, spoken};
 
+use std::error::Error;
 use std::fmt;
 
 #[derive(Clone, Copy, PartialEq, Eq, Debug)]
@@ -10,7 +11,7 @@ pub enum ZoneFault {
 }
 
 impl ZoneFault {
-    // The number by which reports name the refusal.
+    /// The number by which reports name the refusal.
     pub fn number(&self) -> u8
         ensures { result ≡ (told self.now).0 }
     {
@@ -29,3 +30,5 @@ impl fmt::Display for ZoneFault {
         write!(f, "refused {number} {offset} {length}")
     }
 }
+
+impl Error for ZoneFault {}

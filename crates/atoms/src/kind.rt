@@ -1,6 +1,6 @@
-// A kind of atom: a code for each value, and for each code its value or none.
+//! A kind of atom: a code for each value, and for each code its value or none.
 ghost use Rattle.std.specs.Prelude.{◌≡◌, ℕ, Some, IsTrue, ◌↔◌, Option};
-ghost use Rattle.atoms.specs.Kinds.{Lawful, Apart, ReadsBack, ValueOf};
+ghost use Rattle.atoms.specs.Kinds.{LawfulKind, Apart, ReadsBack, ValueOf};
 
 pub trait Kind {
     type Value;
@@ -11,7 +11,7 @@ pub trait Kind {
     ghost valued: { Self → ℕ → Option Self.Value };
 
     // Above the methods, where it is a member that clauses and other members can name, and not below them as a law.
-    ghost lawful: { (k : Self) → Lawful (coded k) (valued k) };
+    ghost lawful: { (k : Self) → LawfulKind (coded k) (valued k) };
 
     fn code(&self, value: &Self::Value) -> u32
         ensures { result ≡ coded self.now value.now };
@@ -27,7 +27,7 @@ fn read<K: Kind>(kind: &K, code: u32) -> Option<K::Value>
     kind.value(code)
 }
 
-// The value that is read back from the code of `value`.
+/// The value that is read back from the code of `value`.
 pub fn reread<K: Kind>(kind: &K, value: &K::Value) -> Option<K::Value>
     ensures same { result ≡ Some value.now }
     ensures every { ReadsBack (K.coded kind.now) (K.valued kind.now) }
@@ -35,7 +35,7 @@ pub fn reread<K: Kind>(kind: &K, value: &K::Value) -> Option<K::Value>
     read(kind, kind.code(value))
 }
 
-// Whether `a` and `b` are one value, told from their codes alone.
+/// Whether `a` and `b` are one value, told from their codes alone.
 pub fn same_value<K: Kind>(kind: &K, a: &K::Value, b: &K::Value) -> bool
     ensures same { IsTrue result ↔ (a.now ≡ b.now) }
     ensures apart { Apart (K.coded kind.now) }

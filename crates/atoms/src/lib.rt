@@ -1,4 +1,4 @@
-// Atoms: values that a cell or a register holds as codes, and the kinds that code them.
+//! Atoms: values that a cell or a register holds as codes, and the kinds that code them.
 #![tactic(auto)]
 
 pub mod aspect;

@@ -4,7 +4,7 @@ ghost use Rattle.atoms.specs.Bounds.{IsZone};
 use crate::fault::ZoneFault;
 use std::fmt;
 
-// A stretch of track, in track units from the start of the circuit.
+/// A stretch of track, in track units from the start of the circuit.
 #[derive(Clone, Copy, PartialEq, Eq, Debug)]
 pub struct Zone {
     offset: u16,
@@ -17,7 +17,7 @@ impl Zone {
     ghost use Rattle.atoms.specs.Refusals.{told};
     ghost use Rattle.atoms.specs.Zones.{zone_at, covered};
 
-    // The zone of any pair, refused where the pair is none.
+    /// The zone of any pair, refused where the pair is none.
     pub fn new(offset: u32, length: u32) -> Result<Zone, ZoneFault>
         ensures made { result_ok result ≡ zone_at offset length }
         ensures refused { IfErr result (λ f. told f ≡ (4, offset ∷ length ∷ [])) }
@@ -44,7 +44,7 @@ impl Zone {
         self.length
     }
 
-    // The last position that the zone covers.
+    /// The last position that the zone covers.
     pub fn last(&self) -> u16
         ensures value { result + 1 ≡ self.now.offset + self.now.length }
         ensures span { (p : ℕ) → covered self.now p ≡ (nat_le self.now.offset p && nat_le p result) }
@@ -53,7 +53,7 @@ impl Zone {
         (self.length - 1) + self.offset
     }
 
-    // Whether the zone covers the position `p`.
+    /// Whether the zone covers the position `p`.
     pub fn covers(&self, p: u32) -> bool
         ensures { result ≡ covered self.now p }
     {

@@ -1,4 +1,4 @@
-// The kind whose values are zones: the offset in the upper 16 bits of the code, the length in the lower 16.
+//! The kind whose values are zones: the offset in the upper 16 bits of the code, the length in the lower 16.
 ghost use Rattle.atoms.specs.Zones.{zone_code, zone_of};
 ghost use Rattle.atoms.specs.Laws.{zones-law};
 

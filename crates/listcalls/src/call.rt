@@ -1,6 +1,6 @@
 use crate::fault::StoreFault;
 
-// A call on a store of values V, with register numbers in the order in which they are checked.
+/// A call on a store of values V, with register numbers in the order in which they are checked.
 #[derive(Clone, PartialEq, Eq, Debug, Drop)]
 pub enum Call<V> {
     Load(u32, V),
@@ -15,7 +15,7 @@ pub enum Call<V> {
     Same(u32, u32),
 }
 
-// What a look at a register shows.
+/// What a look at a register shows.
 #[derive(Clone, PartialEq, Eq, Debug, Drop)]
 pub enum Seen<V> {
     Nil,
@@ -23,7 +23,7 @@ pub enum Seen<V> {
     Atom(V),
 }
 
-// What an accepted call answers: nothing, a cons the work of its turn, a look what it saw, a comparison yes or no.
+/// What an accepted call answers: nothing, a cons the work of its turn, a look what it saw, a comparison yes or no.
 #[derive(Clone, PartialEq, Eq, Debug, Drop)]
 pub enum Answer<V> {
     Done,

@@ -1,24 +1,26 @@
-ghost use Rattle.std.specs.Prelude.{◌≡◌};
-ghost use Rattle.listcalls.specs.Faults.{told};
+ghost use Rattle.std.specs.Prelude.{◌≡◌, Some};
+ghost use Rattle.listcalls.specs.Faults.{told, text_of_fault};
 ghost use Rattle.listcalls.specs.declared.fault.StoreFault.{StoreFault};
 
 use bank::BankFault;
+use std::error::Error;
+use std::fmt;
 
-// Why a call on a store is refused.
+/// Why a call on a store is refused.
 #[derive(Clone, Copy, PartialEq, Eq, Debug)]
 pub enum StoreFault {
-    // what the bank refuses, with its cause and place
+    /// what the bank refuses, with its cause and place
     Bank(BankFault),
-    // there is no such register
+    /// there is no such register
     NoRegister(u32),
-    // this register holds no cell
+    /// this register holds no cell
     NotACell(u32),
-    // no cell is free after the turn, which did this much work
+    /// no cell is free after the turn, which did this much work
     NoFreeCell(u32),
 }
 
 impl StoreFault {
-    // The number by which reports name the refusal.
+    /// The number by which reports name the refusal.
     pub fn number(&self) -> u8
         ensures { result ≡ (told self.now).0 }
     {
@@ -39,3 +41,19 @@ impl From<BankFault> for StoreFault {
         StoreFault::Bank(fault)
     }
 }
+
+impl fmt::Display for StoreFault {
+    ghost output = { λ f. Some (text_of_fault f) };
+
+    fn fmt<W: fmt::Write>(&self, f: &mut fmt::Formatter<W>) -> fmt::Result {
+        let number = self.number();
+        match *self {
+            StoreFault::Bank(BankFault::NoSuchCell(n) | BankFault::WordTooWide(n))
+            | StoreFault::NoRegister(n)
+            | StoreFault::NotACell(n)
+            | StoreFault::NoFreeCell(n) => write!(f, "refused {number} {n}"),
+        }
+    }
+}
+
+impl Error for StoreFault {}

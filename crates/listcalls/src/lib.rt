@@ -1,4 +1,4 @@
-// What the calls of a list store take and give, and why one is refused.
+//! What the calls of a list store take and give, and why one is refused.
 #![tactic(auto)]
 
 mod call;

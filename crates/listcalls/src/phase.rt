@@ -1,4 +1,4 @@
-// What the collector is doing between two calls. Code matches on it: there are three phases, and no caller brings another.
+/// What the collector is doing between two calls. Code matches on it: there are three phases, and no caller brings another.
 #[derive(Clone, Copy, PartialEq, Eq, Debug)]
 pub enum Phase {
     Idle,

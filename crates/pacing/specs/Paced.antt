@@ -1,7 +1,7 @@
 -- The paced rule.
 use Rattle.std.specs.Prelude.{◌≡◌, ℕ, ◌+◌, Bool, true, false, if◌then◌else◌, ◌||◌, List, [], ◌∷◌, nat_le}
 use Rattle.std.proofs.lemmas.Bool.{le-leb, or_left}
-use Rattle.pacing.specs.Rules.{Lawful}
+use Rattle.pacing.specs.Rules.{LawfulRule}
 use Rattle.pacing.specs.declared.paced.PacedRule.{PacedRule}
 
 abbrev pub paced_floor : PacedRule → ℕ
@@ -22,7 +22,7 @@ next r count = record { floor = r.floor; pace = r.pace; tally = if paced_says r 
 abbrev pub paced_becomes : PacedRule → ℕ → PacedRule → Type 0
 paced_becomes r count after = after ≡ next r count
 
-pub paced-law : (r : PacedRule) → Lawful (paced_floor r) (paced_says r)
+pub paced-law : (r : PacedRule) → LawfulRule (paced_floor r) (paced_says r)
 paced-law r count low = or_left (nat_le count r.floor) (nat_le r.pace r.tally) (le-leb count r.floor low)
 
 -- the rule after it was asked with these counts, one after another

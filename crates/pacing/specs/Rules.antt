@@ -2,5 +2,5 @@
 use Rattle.std.specs.Prelude.{◌≡◌, ℕ, ◌≤◌, Bool, true}
 
 -- a count at or below the floor gets yes
-abbrev pub Lawful : ℕ → (ℕ → Bool) → Type 0
-Lawful floor says = (count : ℕ) → count ≤ floor → says count ≡ true
+abbrev pub LawfulRule : ℕ → (ℕ → Bool) → Type 0
+LawfulRule floor says = (count : ℕ) → count ≤ floor → says count ≡ true

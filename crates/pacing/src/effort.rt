@@ -3,7 +3,7 @@ ghost use Rattle.pacing.specs.Shares.{IsShare, IsEffort};
 
 use crate::fault::EffortFault;
 
-// How much a turn does: at most k1 cells scanned in a mark turn, at most k2 swept in a sweep turn.
+/// How much a turn does: at most k1 cells scanned in a mark turn, at most k2 swept in a sweep turn.
 #[derive(Clone, Copy, PartialEq, Eq, Debug)]
 pub struct Effort {
     k1: u8,
@@ -22,7 +22,7 @@ impl Effort {
     ghost use Rattle.pacing.specs.Efforts.{effort_at};
     ghost use Rattle.pacing.specs.Refusals.{told};
 
-    // The effort of any pair, refused unless each is 1 to 64.
+    /// The effort of any pair, refused unless each is 1 to 64.
     pub fn new(k1: u32, k2: u32) -> Result<Effort, EffortFault>
         ensures made { result_ok result ≡ effort_at k1 k2 }
         ensures refused { IfErr result (λ f. told f ≡ (3, k1 ∷ k2 ∷ [])) }

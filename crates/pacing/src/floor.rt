@@ -1,4 +1,4 @@
-// The floor rule: yes exactly to the counts at or below its floor.
+//! The floor rule: yes exactly to the counts at or below its floor.
 ghost use Rattle.std.specs.Prelude.{◌≡◌};
 ghost use Rattle.pacing.specs.Floors.{floor_of, floor_says, floor_becomes, floor-law};
 

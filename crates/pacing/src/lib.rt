@@ -1,4 +1,4 @@
-// Pacing: when a collection begins, and how much each of its turns does.
+//! Pacing: when a collection begins, and how much each of its turns does.
 #![tactic(auto)]
 
 pub mod effort;

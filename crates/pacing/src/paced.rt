@@ -1,5 +1,5 @@
-// The paced rule: yes at or below its floor, and also when it has said no as often as its pace since it was made or last
-// said yes.
+//! The paced rule: yes at or below its floor, and also when it has said no as often as its pace since it was made or last
+//! said yes.
 ghost use Rattle.std.specs.Prelude.{◌≡◌};
 ghost use Rattle.pacing.specs.Paced.{paced_floor, paced_says, paced_becomes, fresh, next, paced-law, KeepsPace};
 
@@ -13,7 +13,7 @@ pub struct PacedRule {
 }
 
 impl PacedRule {
-    // Any floor and pace will do; with pace 0 the answer is always yes.
+    /// Any floor and pace will do; with pace 0 the answer is always yes.
     pub fn new(floor: u32, pace: u16) -> PacedRule
         ensures { result ≡ fresh floor pace }
     {
@@ -50,7 +50,7 @@ impl StartRule for PacedRule {
     }
 }
 
-// The rule over any run of questions: yes exactly at or below the floor, or after as many noes as the pace.
+/// The rule over any run of questions: yes exactly at or below the floor, or after as many noes as the pace.
 pub fn pace_is_kept(floor: u32, pace: u16)
     ensures { KeepsPace floor pace }
 {}

@@ -1,26 +1,27 @@
-// Why a plan was not read to its end.
+//! Why a plan was not read to its end.
 ghost use Rattle.std.specs.Prelude.{◌≡◌, Some};
 ghost use Rattle.plan.specs.Refusals.{told, fault_text};
 
+use std::error::Error;
 use std::fmt;
 
 #[derive(Clone, Copy, PartialEq, Eq, Debug)]
 pub enum PlanFault {
-    // The plan has more bytes than the limit.
+    /// The plan has more bytes than the limit.
     TooLong,
-    // The place of the first byte with which no well-formed line goes on, both numbers from 1.
+    /// The place of the first byte with which no well-formed line goes on, both numbers from 1.
     Malformed { line: u32, column: u32 },
 }
 
 impl PlanFault {
-    // The number by which reports name the refusal.
+    /// The number by which reports name the refusal.
     pub fn number(&self) -> u8
         ensures { result ≡ (told self.now).0 }
     {
         8
     }
 
-    // What the refusal returns: line and column, and where there is no place two zeros, as the printed line has them.
+    /// What the refusal returns: line and column, and where there is no place two zeros, as the printed line has them.
     pub fn values(&self) -> [u32; 2]
         ensures { result ≡ (told self.now).1 }
     {
@@ -39,3 +40,5 @@ impl fmt::Display for PlanFault {
         write!(f, "fault {line} {column}")
     }
 }
+
+impl Error for PlanFault {}

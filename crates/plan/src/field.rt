@@ -1,4 +1,4 @@
-// The numbers of a line.
+//! The numbers of a line.
 ghost use Rattle.std.specs.Prelude.{◌≡◌, suc, ◌+◌, ◌*◌, ◌<◌, ◌≤◌, MatchBool};
 ghost use Rattle.plan.specs.Parts.{Numbers, NumberAt, NumbersAt, Scans, mark};
 

@@ -1,4 +1,4 @@
-// Plans: the text that a run is asked for in, read into typed lines.
+//! Plans: the text that a run is asked for in, read into typed lines.
 #![tactic(auto)]
 
 pub mod fault;
@@ -11,4 +11,4 @@ mod verb;
 
 pub use fault::PlanFault;
 pub use line::Line;
-pub use reading::{Reading, read_plan};
+pub use reading::{MOST_PLAN_BYTES, Reading, read_plan};

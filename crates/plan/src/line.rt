@@ -1,4 +1,4 @@
-// One line of a plan: a call with its numbers.
+//! One line of a plan: the store that it asks for, or a call with its numbers.
 
 #[derive(Clone, Copy, PartialEq, Eq, Debug)]
 pub enum Line {

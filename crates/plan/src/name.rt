@@ -1,4 +1,4 @@
-// The name that a line begins with.
+//! The name that a line begins with.
 ghost use Rattle.std.specs.Prelude.{◌≡◌, ◌≤◌, ◌∷◌, length, false, IfSome};
 ghost use Rattle.plan.specs.Names.{table, agree, found, closest};
 ghost use Rattle.plan.specs.Verbs.{word};

@@ -1,4 +1,4 @@
-// A plan, read.
+//! A plan, read.
 ghost use Rattle.std.specs.Prelude.{◌≡◌, ◌+◌, ◌<◌, ◌≤◌, length, IfOk, nat_lt};
 ghost use Rattle.plan.specs.declared.fault.PlanFault.{PlanFault};
 ghost use Rattle.plan.specs.Readings.{Written, Parses, Reads, Whole, OneReading};
@@ -9,13 +9,13 @@ use crate::line::Line;
 use crate::scanner::{Mismatch, Scanner};
 use std::alloc::{AllocError, Global};
 
-// The most bytes that a plan has.
-pub const LIMIT: usize = 32_768;
+/// The most bytes that a plan has.
+pub const MOST_PLAN_BYTES: usize = 32_768;
 
-// The fewest bytes that a line has.
+// The fewest bytes that a line has: a clear or a look of a register of one digit.
 const FEWEST_LINE_BYTES: usize = 7;
 
-// The lines of a plan up to its end, or up to the fault that ends it.
+/// The lines of a plan up to its end, or up to the fault that ends it.
 #[derive(PartialEq, Eq, Debug, Drop)]
 pub struct Reading {
     pub lines: Vec<Line>,
@@ -65,10 +65,10 @@ fn read_lines(heap: Global, bytes: &[u8]) -> Result<Reading, AllocError>
 fn is_too_long(bytes: &[u8]) -> bool
     ensures { result ≡ nat_lt 32768 (length bytes.now) }
 {
-    bytes.len() > LIMIT
+    bytes.len() > MOST_PLAN_BYTES
 }
 
-// A plan's lines, and the fault that ends it if there is one. A text has one reading.
+/// A plan's lines, and the fault that ends it if there is one. A text has one reading.
 pub fn read_plan(heap: Global, bytes: &[u8]) -> Result<Reading, AllocError>
     ensures reads { IfOk result (λ p. Reads bytes.now p.lines.items p.fault) }
     ensures whole { IfOk result (λ p. Whole bytes.now p.lines.items p.fault) }

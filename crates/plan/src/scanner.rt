@@ -1,4 +1,4 @@
-// The text that is left of a plan, read from its front.
+//! The text that is left of a plan, read from its front.
 ghost use Rattle.std.specs.Prelude.{◌≡◌, ◌+◌, ◌<◌, List, ℕ, ◌∷◌, MatchResult};
 ghost use Rattle.plan.specs.Parts.{NoDigit};
 

@@ -1,4 +1,4 @@
-// What a line begins with: the name of its call.
+//! What a line begins with: the name of its call.
 ghost use Rattle.std.specs.Prelude.{◌≡◌};
 ghost use Rattle.plan.specs.Verbs.{word, arity};
 ghost use Rattle.plan.specs.Parts.{CallAt, Numbers, Scans};

@@ -3,7 +3,7 @@ use Rattle.std.proofs.Common.{◌≡◌, ℕ, List, [], ◌∷◌, length, sym, 
 use Rattle.std.proofs.lemmas.Bool.{le-leb}
 use Rattle.bank.specs.Banks.{Sound}
 use Rattle.bank.specs.declared.word.Cell.{Cell}
-use Rattle.collector.specs.Laws.{Grounded, Lawful}
+use Rattle.collector.specs.Laws.{Grounded, LawfulRun}
 use Rattle.collector.specs.Runs.{Event, Collection, next, onward, beginning, Admissible, RuleAfter, under_floor}
 use Rattle.collector.specs.States.{Fixed, State, new}
 use Rattle.listcalls.specs.declared.call.Call.{Call}
@@ -36,14 +36,14 @@ admissible-under {V} floor c s i e (k ∷ ks) =
 
 -- The laws hold of a run under the floor rule.
 lawful_under_floor : {V : Type 0} (fixed : Fixed V) (size : ℕ) → Grounded fixed size → (cs : List (Call V))
-    → Lawful fixed size (under_floor fixed.floor (new fixed size) cs)
+    → LawfulRun fixed size (under_floor fixed.floor (new fixed size) cs)
 lawful_under_floor fixed size ground cs =
     every_run_lawful fixed size ground (under_floor fixed.floor (new fixed size) cs)
     (admissible-under fixed.floor (beginning (new fixed size)) (new fixed size) (new-keeps fixed size ground) refl cs)
 
 -- The same of a plan's run over a bank that keeps its law.
 pub plan_lawful : (limit : ℕ) (cells : List Cell) → Sound limit cells → (opening : Opening) (ls : List Line)
-    → Lawful (plan_fixed limit opening) (length cells) (events_of limit (length cells) opening ls)
+    → LawfulRun (plan_fixed limit opening) (length cells) (events_of limit (length cells) opening ls)
 plan_lawful limit cells sound opening ls =
     let ground : Grounded (plan_fixed limit opening) (length cells) = record {
       few = sound.few;

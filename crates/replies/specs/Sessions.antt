@@ -2,7 +2,7 @@
 use Rattle.std.specs.Prelude.{◌≡◌, ℕ, min, List, [], ◌∷◌, ◌++◌, Some, None, Ok, Err, codes, Option, Result}
 use Rattle.atoms.specs.declared.zone.Zone.{Zone}
 use Rattle.atoms.specs.Zones.{zone_code, zone_of}
-use Rattle.collector.specs.Laws.{Lawful}
+use Rattle.collector.specs.Laws.{LawfulRun}
 use Rattle.collector.specs.Runs.{Event, under_floor}
 use Rattle.collector.specs.States.{Fixed, new}
 use Rattle.memory.specs.Packing.{packed_top}
@@ -44,7 +44,7 @@ replies_in limit size opening ls = Reply.Done ∷ replies_from opening.floor (ne
 -- They are these, and the laws of runs hold of the run.
 pub record Served (limit size : ℕ) (opening : Opening) (ls : List Line) (rs : List Reply) : Type 0 where
   pub replied : rs ≡ replies_in limit size opening ls
-  pub lawful : Lawful (plan_fixed limit opening) size (events_of limit size opening ls)
+  pub lawful : LawfulRun (plan_fixed limit opening) size (events_of limit size opening ls)
 
 -- The replies to a plan's lines, by how it opens: a store of that many packed cells, 4,096 at most.
 abbrev pub RepliedBy : Result (Option Opening) EffortFault → List Line → List Reply → Type 0

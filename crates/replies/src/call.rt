@@ -1,4 +1,4 @@
-// The call that a line asks for.
+//! The call that a line asks for.
 ghost use Rattle.std.specs.Prelude.{◌≡◌};
 ghost use Rattle.replies.specs.Requests.{call_of};
 
@@ -7,7 +7,7 @@ use atoms::Zone;
 use listcalls::Call;
 use plan::Line;
 
-// The call of a line, or why it comes to none; a store line asks for no call.
+/// The call of a line, or why it comes to none; a store line asks for no call.
 pub fn call_of(line: Line) -> Result<Option<Call<Zone>>, LineFault>
     ensures { result ≡ call_of line }
 {

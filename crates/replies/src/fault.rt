@@ -1,16 +1,16 @@
-// Why a line of a plan is refused.
-ghost use Rattle.std.specs.Prelude.{◌≡◌, [], ◌∷◌, Some};
+//! Why a line of a plan is refused.
+ghost use Rattle.std.specs.Prelude.{◌≡◌, Some};
 ghost use Rattle.atoms.specs.Refusals.{spoken};
-ghost use Rattle.replies.specs.Refusals.{told, values};
+ghost use Rattle.replies.specs.Refusals.{told};
 ghost use Rattle.replies.specs.declared.fault.LineFault.{LineFault};
 
 use atoms::fault::ZoneFault;
-use bank::BankFault;
 use listcalls::StoreFault;
 use pacing::fault::EffortFault;
+use std::error::Error;
 use std::fmt;
 
-// The fault of the part that refused, whole.
+/// The fault of the part that refused, whole.
 #[derive(Clone, Copy, PartialEq, Eq, Debug)]
 pub enum LineFault {
     Effort(EffortFault),
@@ -44,7 +44,7 @@ impl From<StoreFault> for LineFault {
 }
 
 impl LineFault {
-    // The number by which reports name the refusal.
+    /// The number by which reports name the refusal.
     pub fn number(&self) -> u8
         ensures { result ≡ (told self.now).0 }
     {
@@ -54,32 +54,19 @@ impl LineFault {
             LineFault::Store(fault) => fault.number(),
         }
     }
-
-    // What it returns: one value, and perhaps a second.
-    fn values(&self) -> (u32, Option<u32>)
-        ensures { values result.0 result.1 ≡ (told self.now).1 }
-    {
-        match *self {
-            LineFault::Effort(EffortFault::OutOfRange { k1, k2 }) => (k1, Some(k2)),
-            LineFault::Zone(ZoneFault::NotAZone { offset, length }) => (offset, Some(length)),
-            LineFault::Store(
-                StoreFault::Bank(BankFault::NoSuchCell(n) | BankFault::WordTooWide(n))
-                | StoreFault::NoRegister(n)
-                | StoreFault::NotACell(n)
-                | StoreFault::NoFreeCell(n),
-            ) => (n, None),
-        }
-    }
 }
 
 impl fmt::Display for LineFault {
     ghost output = { λ f. Some (spoken (told f)) };
 
+    #[tactic(auto, using(crate::proofs::Spoken::of_speaking))]
     fn fmt<W: fmt::Write>(&self, f: &mut fmt::Formatter<W>) -> fmt::Result {
-        let number = self.number();
-        match self.values() {
-            (first, None) => write!(f, "refused {number} {first}"),
-            (first, Some(second)) => write!(f, "refused {number} {first} {second}"),
+        match self {
+            LineFault::Effort(fault) => write!(f, "{fault}"),
+            LineFault::Zone(fault) => write!(f, "{fault}"),
+            LineFault::Store(fault) => write!(f, "{fault}"),
         }
     }
 }
+
+impl Error for LineFault {}

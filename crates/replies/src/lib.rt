@@ -1,4 +1,4 @@
-// What a plan's lines ask of a store, and what is written of its answers.
+//! What a plan's lines ask of a store, and what is written of its answers.
 #![tactic(auto)]
 
 mod call;

@@ -1,4 +1,4 @@
-// How a plan opens.
+//! How a plan opens.
 ghost use Rattle.std.specs.Prelude.{◌≡◌};
 ghost use Rattle.replies.specs.Openings.{opening_of};
 

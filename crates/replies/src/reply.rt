@@ -1,4 +1,4 @@
-// What is printed for a line of a plan: one case for each form of text, refusals included.
+//! What is printed for a line of a plan: one case for each form of text, refusals included.
 ghost use Rattle.std.specs.Prelude.{◌≡◌, Some};
 ghost use Rattle.replies.specs.Replies.{reply_text, reply_in, reply_of, answer_reply, seen_reply};
 
@@ -10,7 +10,7 @@ use std::fmt;
 #[derive(Clone, Copy, PartialEq, Eq, Debug)]
 pub enum Reply {
     Done,
-    // of a cons, with the work of its turn
+    /// of a cons, with the work of its turn
     Worked(u32),
     Nil,
     Cell,

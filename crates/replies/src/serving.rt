@@ -1,4 +1,4 @@
-// The lines of a plan, served by a store.
+//! The lines of a plan, served by a store.
 ghost use Rattle.std.specs.Prelude.{◌≡◌, ◌++◌, OnOk, string_bytes};
 ghost use Rattle.replies.specs.Replies.{text_of_replies};
 ghost use Rattle.replies.specs.Requests.{call_of};

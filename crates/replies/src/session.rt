@@ -1,6 +1,6 @@
-// A plan, answered.
+//! A plan, answered.
 ghost use Rattle.std.specs.Prelude.{◌≡◌, ◌++◌, length, IfOk, OnOk, Ok, Some, string_bytes};
-ghost use Rattle.collector.specs.Laws.{Lawful};
+ghost use Rattle.collector.specs.Laws.{LawfulRun};
 ghost use Rattle.replies.specs.Replies.{text_of_replies};
 ghost use Rattle.replies.specs.Sessions.{plan_fixed, events_of, replies_in, Added, Answered, text_of_fault, later};
 
@@ -15,7 +15,6 @@ use pacing::fault::EffortFault;
 use pacing::floor::FloorRule;
 use plan::{Line, PlanFault, read_plan};
 use std::alloc::{AllocError, Global};
-use std::fmt::Write;
 use store::Store;
 
 // Most replies have no more bytes.
@@ -30,7 +29,7 @@ fn serve_on<B: Bank + Drop>(
     lines: &[Line],
 ) -> Result<(), AllocError>
     ensures text { OnOk result (string_bytes text.new ≡ string_bytes text.old ++ text_of_replies (replies_in (B.limit bank) (length (B.cells bank)) opening lines.now)) }
-    ensures lawful { Lawful (plan_fixed (B.limit bank) opening) (length (B.cells bank)) (events_of (B.limit bank) (length (B.cells bank)) opening lines.now) }
+    ensures lawful { LawfulRun (plan_fixed (B.limit bank) opening) (length (B.cells bank)) (events_of (B.limit bank) (length (B.cells bank)) opening lines.now) }
 {
     let rule = FloorRule::new(opening.floor);
     let mut store = Store::new(bank, Zones, rule, opening.effort);
@@ -86,12 +85,12 @@ fn push_fault(
     ensures { OnOk result (string_bytes text.new ≡ string_bytes text.old ++ text_of_fault opening fault) }
 {
     match (opening, fault) {
-        (Ok(_), Some(fault)) => write!(text, "{fault}\n").map_err(|_| AllocError),
+        (Ok(_), Some(fault)) => writeln!(text, "{fault}"),
         _ => Ok(()),
     }
 }
 
-// The text that is printed for a plan: its calls are made of a store of its own, and the laws of runs hold of them.
+/// The text that is printed for a plan: its calls are made of a store of its own, and the laws of runs hold of them.
 pub fn answer_plan(heap: Global, bytes: &[u8]) -> Result<String, AllocError>
     ensures { IfOk result (λ t. Answered bytes.now (string_bytes t)) }
 {

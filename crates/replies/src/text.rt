@@ -1,10 +1,9 @@
-// The text that is printed for a reply.
+//! The text that is printed for a reply.
 ghost use Rattle.std.specs.Prelude.{◌≡◌, ◌+◌, ◌<◌, [], ◌∷◌, ◌++◌, OnOk, string_bytes, decimal};
 ghost use Rattle.replies.specs.Replies.{line_of};
 
 use super::reply::Reply;
 use std::alloc::AllocError;
-use std::fmt::Write;
 
 // The line of a reply. Its commonest words are put in as they are, since a formatter takes longer.
 #[inline(always)]
@@ -37,7 +36,7 @@ fn push_number(text: &mut String, n: u32) -> Result<(), AllocError>
             push_digit(text, n / 10)?;
             push_digit(text, n % 10)
         }
-        _ => write!(text, "{n}").map_err(|_| AllocError),
+        _ => write!(text, "{n}"),
     }
 }
 
@@ -53,5 +52,5 @@ fn push_digit(text: &mut String, d: u32) -> Result<(), AllocError>
 fn push_formatted(text: &mut String, reply: Reply) -> Result<(), AllocError>
     ensures { OnOk result (string_bytes text.new ≡ string_bytes text.old ++ line_of reply) }
 {
-    write!(text, "{reply}\n").map_err(|_| AllocError)
+    writeln!(text, "{reply}")
 }

@@ -1,4 +1,4 @@
-// The two words of a cell.
+//! The two words of a cell.
 ghost use Rattle.std.specs.Prelude.{◌≡◌};
 ghost use Rattle.bank.specs.Words.{with_change, word_in};
 ghost use Rattle.store.specs.Halves.{word_of, with_word};

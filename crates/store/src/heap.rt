@@ -1,4 +1,4 @@
-// The cells of a bank and those of them that wait to be scanned: marking.
+//! The cells of a bank and those of them that wait to be scanned: marking.
 ghost use Rattle.std.specs.Prelude.{◌≡◌, length};
 ghost use Rattle.collector.specs.Turns.{offer, offers, scan, scans, scanned, latest};
 ghost use Rattle.store.specs.Meaning.{heap_of};

@@ -1,4 +1,4 @@
-// A store of Lisp cells over any bank, kind of atom and start rule, collected in small turns.
+//! A store of Lisp cells over any bank, kind of atom and start rule, collected in small turns.
 #![tactic(auto)]
 
 mod half;

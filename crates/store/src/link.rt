@@ -1,4 +1,4 @@
-// A bank's cells linked into one free list.
+//! A bank's cells linked into one free list.
 ghost use Rattle.std.specs.Prelude.{◌≡◌, length};
 ghost use Rattle.collector.specs.Calls.{filling, filled};
 ghost use Rattle.collector.specs.States.{linked, first_word};
@@ -31,22 +31,17 @@ pub fn link<B: Bank>(bank: &mut B) -> u32
 }
 
 // Puts two words and a mark into a cell, one after the other, as far as the bank takes them.
-pub fn fill<B: Bank>(
-    bank: &mut B,
-    h: u32,
-    car: Word,
-    cdr: Word,
-    mark: bool,
-) -> Result<(), BankFault>
-    ensures answer { result ≡ filling (B.limit bank.old) (B.cells bank.old) h car cdr }
-    ensures after { B.cells bank.new ≡ filled (B.limit bank.old) (B.cells bank.old) h car cdr mark }
+#[tactic(auto, using(crate::proofs::Links::of_filling))]
+pub fn fill<B: Bank>(bank: &mut B, h: u32, cell: Cell) -> Result<(), BankFault>
+    ensures answer { result ≡ filling (B.limit bank.old) (B.cells bank.old) h cell.car cell.cdr }
+    ensures after { B.cells bank.new ≡ filled (B.limit bank.old) (B.cells bank.old) h cell.car cell.cdr cell.mark }
     ensures fixed { B.limit bank.new ≡ B.limit bank.old }
 {
-    bank.writable(h, car)?;
-    if let Err(fault) = cdr.within(bank.word_limit()) {
-        bank.set(h, Change::Car(car))?;
+    bank.writable(h, cell.car)?;
+    if let Err(fault) = cell.cdr.within(bank.word_limit()) {
+        bank.set(h, Change::Car(cell.car))?;
         return Err(fault);
     }
-    bank.write_cell(h, Cell { car, cdr, mark });
+    bank.write_cell(h, cell);
     Ok(())
 }

@@ -1,5 +1,5 @@
-// A store of lists: sixteen registers, ten calls, and what they leave. Each contract is an equation with the definition of the
-// call, for every state. What the start rule says counts in a cons alone.
+//! A store of lists: sixteen registers, ten calls, and what they leave. Each contract is an equation with the definition of the
+//! call, for every state. What the start rule says counts in a cons alone.
 ghost use Rattle.std.specs.Prelude.{◌≡◌, ℕ, Bool};
 ghost use Rattle.bank.specs.Banks.{asked};
 ghost use Rattle.listcalls.specs.declared.call.Answer.{Answer};
@@ -42,68 +42,68 @@ pub trait ListStore {
 
     ghost rule: { Self → Self.Rule };
 
-    // Sets register i to the atom of a value.
+    /// Sets register i to the atom of a value.
     fn load(&mut self, i: u32, value: &Self::Value) -> Result<(), StoreFault>
         ensures state { state self.new ≡ (call_under says (rule self.old) (state self.old) (Call.Load i value.now)).state }
         ensures answer { outcome_of result ≡ (call_under says (rule self.old) (state self.old) (Call.Load i value.now)).outcome }
         ensures kind { kind self.new ≡ kind self.old }
         ensures rule { rule self.new ≡ rule self.old };
 
-    // Sets register i to nil.
+    /// Sets register i to nil.
     fn clear(&mut self, i: u32) -> Result<(), StoreFault>
         ensures state { state self.new ≡ (call_under says (rule self.old) (state self.old) (Call.Clear i)).state }
         ensures answer { outcome_of result ≡ (call_under says (rule self.old) (state self.old) (Call.Clear i)).outcome }
         ensures kind { kind self.new ≡ kind self.old }
         ensures rule { rule self.new ≡ rule self.old };
 
-    // Sets register i to register a's word.
+    /// Sets register i to register a's word.
     fn copy(&mut self, i: u32, a: u32) -> Result<(), StoreFault>
         ensures state { state self.new ≡ (call_under says (rule self.old) (state self.old) (Call.Copy i a)).state }
         ensures answer { outcome_of result ≡ (call_under says (rule self.old) (state self.old) (Call.Copy i a)).outcome }
         ensures kind { kind self.new ≡ kind self.old }
         ensures rule { rule self.new ≡ rule self.old };
 
-    // Makes a turn, takes a free cell for register i and puts the words of a and b into it; the work of the turn.
+    /// Makes a turn, takes a free cell for register i and puts the words of a and b into it; the work of the turn.
     fn cons(&mut self, i: u32, a: u32, b: u32) -> Result<u32, StoreFault>
         ensures state { state self.new ≡ (call_under says (rule self.old) (state self.old) (Call.Cons i a b)).state }
         ensures answer { outcome_by Answer.Worked result ≡ (call_under says (rule self.old) (state self.old) (Call.Cons i a b)).outcome }
         ensures kind { kind self.new ≡ kind self.old }
         ensures rule { RuleAfter becomes (asks (state self.old) (Call.Cons i a b)) (rule self.old) (state self.old).pool.count (rule self.new) };
 
-    // Copies the car of the cell in register a into register i.
+    /// Copies the car of the cell in register a into register i.
     fn car(&mut self, i: u32, a: u32) -> Result<(), StoreFault>
         ensures state { state self.new ≡ (call_under says (rule self.old) (state self.old) (Call.Car i a)).state }
         ensures answer { outcome_of result ≡ (call_under says (rule self.old) (state self.old) (Call.Car i a)).outcome }
         ensures kind { kind self.new ≡ kind self.old }
         ensures rule { rule self.new ≡ rule self.old };
 
-    // Copies the cdr of the cell in register a into register i.
+    /// Copies the cdr of the cell in register a into register i.
     fn cdr(&mut self, i: u32, a: u32) -> Result<(), StoreFault>
         ensures state { state self.new ≡ (call_under says (rule self.old) (state self.old) (Call.Cdr i a)).state }
         ensures answer { outcome_of result ≡ (call_under says (rule self.old) (state self.old) (Call.Cdr i a)).outcome }
         ensures kind { kind self.new ≡ kind self.old }
         ensures rule { rule self.new ≡ rule self.old };
 
-    // Puts register b's word into the car of the cell in register a.
+    /// Puts register b's word into the car of the cell in register a.
     fn rplaca(&mut self, a: u32, b: u32) -> Result<(), StoreFault>
         ensures state { state self.new ≡ (call_under says (rule self.old) (state self.old) (Call.Rplaca a b)).state }
         ensures answer { outcome_of result ≡ (call_under says (rule self.old) (state self.old) (Call.Rplaca a b)).outcome }
         ensures kind { kind self.new ≡ kind self.old }
         ensures rule { rule self.new ≡ rule self.old };
 
-    // Puts register b's word into the cdr of the cell in register a.
+    /// Puts register b's word into the cdr of the cell in register a.
     fn rplacd(&mut self, a: u32, b: u32) -> Result<(), StoreFault>
         ensures state { state self.new ≡ (call_under says (rule self.old) (state self.old) (Call.Rplacd a b)).state }
         ensures answer { outcome_of result ≡ (call_under says (rule self.old) (state self.old) (Call.Rplacd a b)).outcome }
         ensures kind { kind self.new ≡ kind self.old }
         ensures rule { rule self.new ≡ rule self.old };
 
-    // What register i holds.
+    /// What register i holds.
     fn look(&self, i: u32) -> Result<Seen<Self::Value>, StoreFault>
         ensures state { state self.now ≡ (call_under says (rule self.now) (state self.now) (Call.Look i)).state }
         ensures answer { outcome_by Answer.Saw result ≡ (call_under says (rule self.now) (state self.now) (Call.Look i)).outcome };
 
-    // Whether registers i and j hold two nils, one cell, or equal codes.
+    /// Whether registers i and j hold two nils, one cell, or equal codes.
     fn same(&self, i: u32, j: u32) -> Result<bool, StoreFault>
         ensures state { state self.now ≡ (call_under says (rule self.now) (state self.now) (Call.Same i j)).state }
         ensures answer { outcome_by Answer.Same result ≡ (call_under says (rule self.now) (state self.now) (Call.Same i j)).outcome };
@@ -117,15 +117,15 @@ pub trait ListStore {
     fn free_count(&self) -> u32
         ensures { result ≡ (state self.now).pool.count };
 
-    // The word of a register.
+    /// The word of a register.
     fn register(&self, r: u32) -> Result<Word, StoreFault>
         ensures { result ≡ register_asked (state self.now).registers r };
 
-    // A cell of the bank.
+    /// A cell of the bank.
     fn cell(&self, n: u32) -> Result<Cell, BankFault>
         ensures { result ≡ asked (state self.now).heap.cells n };
 
-    // Makes any call, given as a value.
+    /// Makes any call, given as a value.
     fn apply(&mut self, call: &Call<Self::Value>) -> Outcome<Self::Value>
         ensures state { state self.new ≡ (call_under says (rule self.old) (state self.old) call.now).state }
         ensures answer { result ≡ (call_under says (rule self.old) (state self.old) call.now).outcome }

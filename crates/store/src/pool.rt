@@ -1,4 +1,4 @@
-// The free list, and where the sweep stands: sweeping. The bank is a parameter of each step, since the heap owns it.
+//! The free list, and where the sweep stands: sweeping. The bank is a parameter of each step, since the heap owns it.
 ghost use Rattle.std.specs.Prelude.{◌≡◌, ◌-◌, min, false, length, if◌then◌else◌, slice_index_or};
 ghost use Rattle.bank.specs.Words.{blank};
 ghost use Rattle.collector.specs.Turns.{is_reserved, treat, sweep, sweeps};
@@ -36,8 +36,8 @@ impl Pool {
         }
     }
 
-    // Takes the mark off cell n, leaves it where it is free, and releases it otherwise. Whether it was left: a hint, of which
-    // nothing is promised.
+    // Takes the mark off cell n if it has one, leaves the cell as it is if it is free, and otherwise releases it. Whether it was
+    // left: a hint, of which nothing is promised.
     #[inline(always)]
     fn treat<B: Bank>(&mut self, bank: &mut B, n: u32, cell: Cell) -> bool
         requires read { cell ≡ slice_index_or (B.cells bank.old) n blank }
@@ -100,10 +100,7 @@ impl Pool {
 fn is_passed(cell: Cell) -> bool
     ensures { result ≡ is_passed cell }
 {
-    match (cell.cdr, cell.mark) {
-        (Word::Reserved, false) => true,
-        _ => false,
-    }
+    matches!((cell.cdr, cell.mark), (Word::Reserved, false))
 }
 
 // How many cells go by at once after one that was swept: those that are free, where it was. Nothing is written meanwhile, so what

@@ -21,7 +21,7 @@ impl Registers {
         }
     }
 
-    // The word of a register, or the refusal of a number that is none's.
+    // The word of register r, or the refusal where there is none.
     pub fn get(&self, r: u32) -> Result<Word, StoreFault>
         ensures { result ≡ register_asked self.now.words r }
     {
@@ -31,7 +31,7 @@ impl Registers {
             .ok_or(StoreFault::NoRegister(r))
     }
 
-    // The words of two registers, or the refusal of the first number that is none's.
+    // The words of two registers, or the refusal of the first that there is not.
     pub fn pair(&self, r: u32, s: u32) -> Result<(Word, Word), StoreFault>
         ensures { result ≡ pair_asked self.now.words r s }
     {
@@ -40,7 +40,7 @@ impl Registers {
         Ok((first, second))
     }
 
-    // A register set; a number that is none's changes nothing.
+    // Sets register r; where there is none, nothing changes.
     pub fn set(&mut self, r: u32, word: Word)
         ensures { self.new.words ≡ slice_set self.old.words r word }
     {

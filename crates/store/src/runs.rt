@@ -1,4 +1,4 @@
-// A whole list of calls on a new store.
+//! A whole list of calls on a new store.
 ghost use Rattle.std.specs.Prelude.{◌≡◌, ℕ, length};
 ghost use Rattle.collector.specs.Calls.{call_under};
 ghost use Rattle.collector.specs.Runs.{RuleAfter, asks};
@@ -15,7 +15,7 @@ use pacing::effort::Effort;
 use pacing::rule::StartRule;
 use std::alloc::{AllocError, Global};
 
-// Memory for the outcomes ran out after some call: the outcomes before it, its own, and the store as it stands after it.
+/// Memory for the outcomes ran out after some call: the outcomes before it, its own, and the store as it stands after it.
 #[derive(Drop)]
 pub struct RunFault<S, V> {
     pub outcomes: Vec<Outcome<V>>,
@@ -23,11 +23,11 @@ pub struct RunFault<S, V> {
     pub store: S,
 }
 
-// The outcomes of all the calls, and the store after them.
+/// The outcomes of all the calls, and the store after them.
 pub type Run<S, V> = Result<(Vec<Outcome<V>>, S), RunFault<S, V>>;
 
-// Makes a call, as `apply` does. Where the calls so far were a run from a new store, they are one with this call, and the laws of
-// runs hold of it.
+/// Makes a call, as `apply` does. Where the calls so far were a run from a new store, they are one with this call, and the laws of
+/// runs hold of it.
 #[inline(always)]
 pub fn go_on<S: ListStore>(store: &mut S, call: &Call<S::Value>) -> Outcome<S::Value>
     ensures state { S.state store.new ≡ (call_under S.says (S.rule store.old) (S.state store.old) call.now).state }
@@ -58,7 +58,7 @@ fn finish<S: ListStore>(heap: Global, mut store: S, calls: &[Call<S::Value>]) ->
     Ok((outcomes, store))
 }
 
-// Makes every call in order on a new store. The contract is the whole law of runs, with no hypothesis.
+/// Makes every call in order on a new store. The contract is the whole law of runs, with no hypothesis.
 pub fn run<B: Bank, K: Kind, R: StartRule>(
     heap: Global,
     bank: B,

@@ -1,4 +1,4 @@
-// The store, and the parts that its calls share.
+//! The store, and the parts that its calls share.
 ghost use Rattle.std.specs.Prelude.{◌≡◌, false, length, ◌==◌};
 ghost use Rattle.collector.specs.States.{new as new_state};
 ghost use Rattle.collector.specs.Turns.{begun, turn, work as work_of};
@@ -19,14 +19,14 @@ use crate::pool::Pool;
 use crate::registers::Registers;
 use crate::waiting::Waiting;
 use atoms::Kind;
-use bank::{Bank, Word};
+use bank::{Bank, Cell, Word};
 use listcalls::{Phase, Seen, StoreFault};
 use pacing::effort::Effort;
 use pacing::rule::StartRule;
 
 mod calls;
 
-// A store over a bank, a kind of atom and a start rule.
+/// A store over a bank, a kind of atom and a start rule.
 #[derive(Drop)]
 pub struct Store<B, K, R> {
     heap: Heap<B>,
@@ -39,7 +39,7 @@ pub struct Store<B, K, R> {
 }
 
 impl<B: Bank, K: Kind, R: StartRule> Store<B, K, R> {
-    // A new store, all of whose cells are free.
+    /// A new store, all of whose cells are free.
     pub fn new(mut bank: B, kind: K, rule: R, effort: Effort) -> Store<B, K, R>
         ensures state { ⟦<Self as ListStore>⟧.state result ≡
             new_state (fixed_by B.limit K.coded K.valued R.floor bank kind rule effort) (length (B.cells bank)) }
@@ -65,7 +65,7 @@ impl<B: Bank, K: Kind, R: StartRule> Store<B, K, R> {
         }
     }
 
-    // The bank, the kind and the rule, as they are.
+    /// The bank, the kind and the rule, as they are.
     pub fn into_parts(self) -> (B, K, R)
         ensures bank { result.0 ≡ self.heap.bank }
         ensures kind { result.1 ≡ self.kind }
@@ -180,10 +180,11 @@ impl<B: Bank, K: Kind, R: StartRule> Store<B, K, R> {
         let Word::Cell(h) = self.pool.head else {
             return Err(StoreFault::NoFreeCell(work));
         };
-        let cell = self.heap.bank.cell(h)?;
+        let next = self.heap.bank.cell(h)?.car;
         // A new cell is marked exactly from the sweeper on.
-        fill(&mut self.heap.bank, h, car, cdr, self.pool.sweeper <= h)?;
-        self.pool.head = cell.car;
+        let mark = self.pool.sweeper <= h;
+        fill(&mut self.heap.bank, h, Cell { car, cdr, mark })?;
+        self.pool.head = next;
         self.pool.count -= 1;
         self.registers.set(i, Word::Cell(h));
         Ok(work)

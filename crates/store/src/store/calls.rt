@@ -1,4 +1,4 @@
-// The ten calls, and what is read of a store.
+//! The ten calls, and what is read of a store.
 ghost use Rattle.store.specs.Meaning.{meant, grounded-by};
 
 use super::{Store, same_word};
