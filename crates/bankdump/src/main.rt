@@ -1,5 +1,5 @@
-// Writes chains of track zones into a pile of banks, reads them back, and shows the packed memory.
-// Each line of the input is a chain of zones, and a zone is its offset, a plus sign and its length.
+//! Writes chains of track zones into a pile of banks, reads them back, and shows the packed memory.
+//! Each line of the input is a chain of zones, and a zone is its offset, a plus sign and its length.
 #![tactic(auto)]
 
 mod script;

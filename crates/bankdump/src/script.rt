@@ -4,7 +4,7 @@ use layers::{Hold, Join, Window};
 use memory::{PackedBank, RecordBank};
 use std::alloc::{AllocError, Global};
 
-// Writes each line of the input as a chain, settles, and prints the chains as they are read back.
+// Writes each line of the input but blank ones as a chain, settles, and prints the chains as they are read back.
 pub fn run(rt: &HostRuntime, packed: &mut [u64], records: &mut [Cell]) -> anyhow::Result<()> {
     let join = Join::new(PackedBank::new(packed), RecordBank::new(records));
     let mut bank = Hold::new(Window::new(join, 1, 9));
@@ -12,6 +12,9 @@ pub fn run(rt: &HostRuntime, packed: &mut [u64], records: &mut [Cell]) -> anyhow
     let mut next = 0;
     for line in rt.lines(rt.alloc()) {
         let line = line?;
+        if line.trim().is_empty() {
+            continue;
+        }
         let Some(codes) = chain_codes(rt.alloc(), line.as_str())? else {
             println!(rt; "not a chain: {line}")?;
             continue;

@@ -1,4 +1,4 @@
-// Changes of a bank of two cells.
+//! Changes of a bank of two cells.
 use crate::stores::print_cell;
 use crate::text::WordText;
 use bank::{Bank, BankFault, Cell, Change, Word};

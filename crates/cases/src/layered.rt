@@ -1,4 +1,4 @@
-// A store over each pile of layers two deep.
+//! A store over each pile of layers two deep.
 use crate::stores::under;
 use crate::tables::LAYERED;
 use bank::{Bank, Cell};

@@ -1,4 +1,4 @@
-// cases: works through the examples of the rules, and prints what each call answers and what the store then holds.
+//! cases: works through the examples of the rules, and prints what each call answers and what the store then holds.
 #![tactic(auto)]
 
 mod banks;

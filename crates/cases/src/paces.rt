@@ -1,4 +1,4 @@
-// Direct questions of the start rules.
+//! Direct questions of the start rules.
 use crate::text::NumbersText;
 use pacing::floor::FloorRule;
 use pacing::paced::PacedRule;

@@ -1,11 +1,10 @@
-// Pairs of numbers: which are zones, and which are efforts.
+//! Pairs of numbers: which are zones, and which are efforts.
 use atoms::Zone;
 use atoms::fault::ZoneFault;
 use atoms::kind::Kind;
 use atoms::zones::Zones;
 use pacing::effort::Effort;
 use pacing::fault::EffortFault;
-use replies::LineFault;
 use std::{fmt, io};
 
 const ZONES: &[(u32, u32)] = &[
@@ -57,7 +56,7 @@ impl fmt::Display for EffortText {
     fn fmt<W: fmt::Write>(&self, f: &mut fmt::Formatter<W>) -> fmt::Result {
         match self.0 {
             Ok(effort) => write!(f, "k1 {}, k2 {}", effort.k1(), effort.k2()),
-            Err(fault) => write!(f, "{}", LineFault::Effort(fault)),
+            Err(fault) => write!(f, "{fault}"),
         }
     }
 }

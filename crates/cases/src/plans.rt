@@ -1,4 +1,4 @@
-// Plans at the edges of their format.
+//! Plans at the edges of their format.
 use replies::answer_plan;
 use std::alloc::{AllocError, Global};
 use std::{fmt, io};

@@ -1,4 +1,4 @@
-// Lists of calls made by `run`: their outcomes, and what the store then holds.
+//! Lists of calls made by `run`: their outcomes, and what the store then holds.
 use crate::stores::show;
 use crate::tables::Ask;
 use crate::text::{AskText, Place, WordText, calls_of, effort, unasked};

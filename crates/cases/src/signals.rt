@@ -1,4 +1,4 @@
-// Block signals: aspects in lists, in a store over a pile of layers under the paced rule.
+//! Block signals: aspects in lists, in a store over a pile of layers under the paced rule.
 use crate::text::{Place, effort, unasked};
 use atoms::Kind;
 use atoms::aspect::{Aspect, Seconds, Train};

@@ -1,4 +1,4 @@
-// Works through the tables of stores: calls made one by one, and what the store then holds.
+//! Works through the tables of stores: calls made one by one, and what the store then holds.
 use crate::tables::{Ask, Example, Memory, Rule, Step};
 use crate::text::{AskText, CellText, Place, call_of, effort};
 use atoms::Zone;

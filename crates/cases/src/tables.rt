@@ -1,4 +1,4 @@
-// The examples of stores of zones. An example more costs no proof.
+//! The examples of stores of zones. An example more costs no proof.
 
 // A call in numbers; the last two of a load are its zone's.
 #[derive(Clone, Copy)]

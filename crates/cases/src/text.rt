@@ -1,10 +1,9 @@
-// What is printed of calls, of stores and of their cells.
+//! What is printed of calls, of stores and of their cells.
 use crate::tables::Ask;
 use atoms::Zone;
 use bank::{BankFault, Cell, Word};
-use listcalls::{Call, Phase};
+use listcalls::{Call, Phase, StoreFault};
 use pacing::effort::Effort;
-use replies::LineFault;
 use std::alloc::Global;
 use std::{fmt, io};
 use store::ListStore;
@@ -74,7 +73,7 @@ impl fmt::Display for CellText {
                 let end = if mark { ", marked" } else { "" };
                 write!(f, "{}, {}{end}", WordText(car), WordText(cdr))
             }
-            Err(fault) => write!(f, "{}", LineFault::Store(fault.into())),
+            Err(fault) => write!(f, "{}", StoreFault::from(fault)),
         }
     }
 }
@@ -114,17 +113,17 @@ pub fn unasked() -> io::Error {
 }
 
 pub fn effort(k1: u32, k2: u32) -> io::Result<Effort> {
-    match Effort::new(k1, k2) {
-        Ok(effort) => Ok(effort),
-        Err(_) => Err(unasked()),
-    }
+    let Ok(effort) = Effort::new(k1, k2) else {
+        return Err(unasked());
+    };
+    Ok(effort)
 }
 
 fn load(i: u32, offset: u32, length: u32) -> io::Result<Call<Zone>> {
-    match Zone::new(offset, length) {
-        Ok(zone) => Ok(Call::Load(i, zone)),
-        Err(_) => Err(unasked()),
-    }
+    let Ok(zone) = Zone::new(offset, length) else {
+        return Err(unasked());
+    };
+    Ok(Call::Load(i, zone))
 }
 
 // The call that is asked for.

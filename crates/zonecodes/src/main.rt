@@ -1,5 +1,5 @@
-// zonecodes: reads zones as lines "offset length", and prints for each its code, the positions that it covers and what
-// the code reads back as, or how it is refused; then the totals.
+//! zonecodes: reads zones as lines "offset length", and prints for each its code, the positions that it covers and what
+//! the code reads back as, or how it is refused; then the totals.
 #![tactic(auto)]
 
 use std::io::{BufRead, BufReader};

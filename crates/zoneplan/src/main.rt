@@ -1,7 +1,7 @@
-// zoneplan: reads a plan from standard input and prints the answers to its lines.
+//! zoneplan: reads a plan from standard input and prints the answers to its lines.
 #![tactic(auto)]
 
-use plan::reading::LIMIT;
+use plan::MOST_PLAN_BYTES;
 use replies::answer_plan;
 use std::io::{Read, Write};
 
@@ -12,7 +12,7 @@ fn main(rt: HostRuntime) -> anyhow::Result<()> {
 fn run(rt: &HostRuntime) -> anyhow::Result<()> {
     let heap = rt.alloc();
     // One byte past the limit tells that a plan is too long.
-    let most = LIMIT + 1;
+    let most = MOST_PLAN_BYTES + 1;
     let mut bytes = Vec::with_capacity(heap, most)?;
     rt.stdin().take(most as u64).read_to_end(&mut bytes)?;
     let text = answer_plan(heap, bytes.as_slice())?;

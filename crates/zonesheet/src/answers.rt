@@ -1,4 +1,4 @@
-// What a line is answered with.
+//! What a line is answered with.
 ghost use Rattle.std.specs.Prelude.{◌≡◌, Some};
 ghost use Rattle.zonesheet.specs.Answers.{Answers, faulted};
 ghost use Rattle.zonesheet.specs.declared.answers.Fault.TheVariants.{Line, Refused};
@@ -9,7 +9,7 @@ use atoms::fault::ZoneFault;
 use atoms::zone::Zone;
 use std::fmt;
 
-// Why a line names no zone.
+/// Why a line names no zone.
 #[derive(Clone, Copy)]
 pub enum Fault {
     Line(LineFault),
@@ -47,7 +47,7 @@ impl fmt::Display for Fault {
     }
 }
 
-// The listing of the zone that a line names.
+/// The listing of the zone that a line names.
 #[tactic(auto, using(crate::proofs::Answering::answers_refused))]
 pub fn answer(line: &str) -> Result<Listing, Fault>
     ensures { Answers line.now result }

@@ -1,4 +1,4 @@
-// A sheet of zones, line by line: what a line holds, what it is answered, and the totals.
+//! A sheet of zones, line by line: what a line holds, what it is answered, and the totals.
 #![tactic(auto)]
 
 mod answers;

@@ -1,10 +1,10 @@
-// What a line holds: two numbers with one space between them.
+//! What a line holds: two numbers with one space between them.
 ghost use Rattle.std.specs.Prelude.{Some, MatchOption};
 ghost use Rattle.zonesheet.specs.Lines.{Writes, WritesNone, NoSpace, Parted, ReadsPair, why};
 
 use std::fmt;
 
-// Why a line holds no two numbers.
+/// Why a line holds no two numbers.
 #[derive(Clone, Copy)]
 pub enum LineFault {
     NotText,
@@ -40,7 +40,7 @@ fn halves(line: &str) -> Option<(&str, &str)>
     line.split_once(' ')
 }
 
-// The two numbers of a line, or the first reason why it has none.
+/// The two numbers of a line, or the first reason why it has none.
 pub fn read_pair(line: &str) -> Result<(u32, u32), LineFault>
     ensures { ReadsPair line.now result }
 {

@@ -1,4 +1,4 @@
-// What is printed of a zone.
+//! What is printed of a zone.
 ghost use Rattle.std.specs.Prelude.{◌≡◌, Some};
 ghost use Rattle.zonesheet.specs.Listings.{listed, listing};
 

@@ -1,4 +1,4 @@
-// How many lines were answered in which way.
+//! How many lines were answered in which way.
 ghost use Rattle.std.specs.Prelude.{◌≡◌, Some};
 ghost use Rattle.zonesheet.specs.Tallies.{none, counted, totals};
 
@@ -20,7 +20,7 @@ impl Tally {
         Tally::default()
     }
 
-    // Counts one answer more; a count that is full stays full.
+    /// Counts one answer more; a count that is full stays full.
     pub fn count(&mut self, answer: &Result<Listing, Fault>)
         ensures { self.new ≡ counted answer.now self.old }
     {
