@@ -4,10 +4,25 @@ use layers::{Hold, Join, Window};
 use memory::{PackedBank, RecordBank};
 use std::alloc::{AllocError, Global};
 
-// Writes each line of the input but blank ones as a chain, settles, and prints the chains as they are read back.
+// Works over the two memories, in a window of their join.
 pub fn run(rt: &HostRuntime, packed: &mut [u64], records: &mut [Cell]) -> anyhow::Result<()> {
     let join = Join::new(PackedBank::new(packed), RecordBank::new(records));
-    let mut bank = Hold::new(Window::new(join, 1, 9));
+    work(rt, Window::new(join, 1, 9))
+}
+
+// Writes the chains into a hold over the bank, settles, and prints them as they are read back.
+fn work<B: Bank + Drop>(rt: &HostRuntime, below: B) -> anyhow::Result<()> {
+    let mut bank = Hold::new(below);
+    let starts = write_lines(rt, &mut bank)?;
+    bank.settle();
+    for start in starts.iter() {
+        print_chain(rt, &bank, *start)?;
+    }
+    Ok(())
+}
+
+// Writes each line of the input but blank ones as a chain; where the chains begin.
+fn write_lines<B: Bank>(rt: &HostRuntime, bank: &mut B) -> anyhow::Result<Vec<u32>> {
     let mut starts = Vec::new(rt.alloc());
     let mut next = 0;
     for line in rt.lines(rt.alloc()) {
@@ -19,7 +34,7 @@ pub fn run(rt: &HostRuntime, packed: &mut [u64], records: &mut [Cell]) -> anyhow
             println!(rt; "not a chain: {line}")?;
             continue;
         };
-        match write_chain(&mut bank, next, codes.as_slice()) {
+        match write_chain(bank, next, codes.as_slice()) {
             Ok(end) => {
                 starts.push(next)?;
                 next = end;
@@ -30,11 +45,7 @@ pub fn run(rt: &HostRuntime, packed: &mut [u64], records: &mut [Cell]) -> anyhow
             }
         }
     }
-    bank.settle();
-    for start in starts.iter() {
-        print_chain(rt, &bank, *start)?;
-    }
-    Ok(())
+    Ok(starts)
 }
 
 // Prints the chain that begins in cell `start`.

@@ -28,8 +28,8 @@ impl fmt::Display for ByteText {
     }
 }
 
-const PLANS: &[&[u8]] = &[
-    // Where a plan or a line of it ends.
+// Where a plan or a line of it ends.
+const ENDS: &[&[u8]] = &[
     b"",
     b"\n",
     b"s",
@@ -41,7 +41,10 @@ const PLANS: &[&[u8]] = &[
     b"store 3 1 1 1\nlook 0\n\n",
     b"store 3 1 1 1\nlook 0\n ",
     b"\nstore 3 1 1 1\n",
-    // How numbers are written, and how many there are.
+];
+
+// How numbers are written, and how many there are.
+const NUMBERS: &[&[u8]] = &[
     b"store 03 1 1 1\n",
     b"store 00 1 1 0\n",
     b"store 0 1 1 0\n",
@@ -56,7 +59,10 @@ const PLANS: &[&[u8]] = &[
     b"store 3 1 1 1\ncons 0 1\n",
     b"store 3 1 1 1\ncons 0 1 2 3\n",
     b"store 3 1 1 1\nsame 0 0x\n",
-    // What stands between the words of a line.
+];
+
+// What stands between the words of a line.
+const SPACES: &[&[u8]] = &[
     b"store  3 1 1 1\n",
     b"store 3  1 1 1\n",
     b"store\t3 1 1 1\n",
@@ -72,7 +78,10 @@ const PLANS: &[&[u8]] = &[
     b"store 3 1 1 1\nlook \xb2\n",
     b"store 3 1 1 1\nlook 0\x00\n",
     b"store 3 1 1 1\nlook\xa00\n",
-    // Names cut short, and longer than any.
+];
+
+// Names cut short, and longer than any.
+const NAMES: &[&[u8]] = &[
     b"stor 3 1 1 1\n",
     b"stores 3 1 1 1\n",
     b"Store 3 1 1 1\n",
@@ -89,7 +98,10 @@ const PLANS: &[&[u8]] = &[
     b"store 3 1 1 1\nlock 0\n",
     b"store 3 1 1 1\nxlook 0\n",
     b"store 3 1 1 1\n# note\n",
-    // The first line.
+];
+
+// The first line.
+const OPENINGS: &[&[u8]] = &[
     b"store 3 1 1 1\nstore 3 1 1 1\n",
     b"store 3 1 1 1\nlook 0\nstore 3 1 1 1\n",
     b"load 1 120 80\n",
@@ -105,7 +117,10 @@ const PLANS: &[&[u8]] = &[
     b"store 4096 64 2 4095\ncons 0 1 1\ncons 0 1 1\ncons 0 1 1\ncons 0 1 1\n",
     b"store 4097 64 2 4095\ncons 0 1 1\ncons 0 1 1\ncons 0 1 1\ncons 0 1 1\n",
     b"store 99999 64 2 4095\ncons 0 1 1\ncons 0 1 1\ncons 0 1 1\ncons 0 1 1\n",
-    // What calls are answered: a load in the order of its refusals, a plan with a refused cons, and what stands before a fault.
+];
+
+// What calls are answered: a load in the order of its refusals, a plan with a refused cons, and what stands before a fault.
+const ANSWERS: &[&[u8]] = &[
     b"store 3 1 1 1\nload 16 65535 2\nload 16 4096 1\nload 0 4096 1\nload 0 4095 1\nlook 0\n",
     b"store 3 1 1 1\nload 99999 0 0\nload 99999 99999 99999\nload 0 99999 1\nload 0 0 65536\n",
     b"store 3 1 1 1\nload 1 120 80\ncons 0 1 2\ncons 0 1 2\ncons 3 0 0\ncons 4 0 0\ncons 4 0 0\nlook 1\ncar 5 4\nsame 5 0\ncar 5 1\n",
@@ -126,10 +141,24 @@ pub fn work(rt: &HostRuntime) -> io::Result<()> {
     println!(rt;
         "plans: a line end is written as /, and a byte that does not print by its number"
     )?;
-    for plan in PLANS {
+    edges(rt)?;
+    longest(rt)
+}
+
+fn edges(rt: &HostRuntime) -> io::Result<()> {
+    each(rt, ENDS)?;
+    each(rt, NUMBERS)?;
+    each(rt, SPACES)?;
+    each(rt, NAMES)?;
+    each(rt, OPENINGS)?;
+    each(rt, ANSWERS)
+}
+
+fn each(rt: &HostRuntime, plans: &[&[u8]]) -> io::Result<()> {
+    for plan in plans {
         answer(rt, plan)?;
     }
-    longest(rt)
+    Ok(())
 }
 
 fn longest(rt: &HostRuntime) -> io::Result<()> {

@@ -207,8 +207,8 @@ const BEGIN: Step = Step::Make(&[
     Ask::Cons(2, 15, 15),
 ]);
 
-// Comparisons, small and full banks, replacements and cells taken in each phase, and mark turns of one scan each.
-pub const STORES: &[Example] = &[
+// Comparisons, small and full banks.
+pub const SIZES: &[Example] = &[
     // Not by the number of a word alone, nor by a cell's words.
     Example {
         title: "looks: what a register holds, and whether two hold the same",
@@ -353,7 +353,10 @@ pub const STORES: &[Example] = &[
             Step::Count(64, Ask::Cons(2, 1, 1)),
         ],
     },
-    // Only while marking is the old word of a replacement offered; the new one never is.
+];
+
+// Replacements in each phase. Only while marking is the old word offered; the new one never is.
+pub const REPLACEMENTS: &[Example] = &[
     Example {
         title: "replacing: idle",
         memory: Memory::Packed(4),
@@ -439,6 +442,10 @@ pub const STORES: &[Example] = &[
             Step::Show(&[0, 1, 2, 3, 4, 5]),
         ],
     },
+];
+
+// Mark turns of one scan each, and cells taken while the sweep goes on.
+pub const COLLECTIONS: &[Example] = &[
     // Registers are offered from 0 on and a car before its cdr, and the latest offered is scanned first.
     Example {
         title: "marking: the order of the offers",

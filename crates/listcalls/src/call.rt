@@ -1,7 +1,7 @@
 use crate::fault::StoreFault;
 
 /// A call on a store of values V, with register numbers in the order in which they are checked.
-#[derive(Clone, PartialEq, Eq, Debug, Drop)]
+#[derive(PartialEq, Eq, Debug, Drop)]
 pub enum Call<V> {
     Load(u32, V),
     Clear(u32),
@@ -16,7 +16,7 @@ pub enum Call<V> {
 }
 
 /// What a look at a register shows.
-#[derive(Clone, PartialEq, Eq, Debug, Drop)]
+#[derive(PartialEq, Eq, Debug, Drop)]
 pub enum Seen<V> {
     Nil,
     Cell,
@@ -24,7 +24,7 @@ pub enum Seen<V> {
 }
 
 /// What an accepted call answers: nothing, a cons the work of its turn, a look what it saw, a comparison yes or no.
-#[derive(Clone, PartialEq, Eq, Debug, Drop)]
+#[derive(PartialEq, Eq, Debug, Drop)]
 pub enum Answer<V> {
     Done,
     Worked(u32),

@@ -17,6 +17,11 @@ fn has<B: Bank>(rt: &impl Abort, bank: &B, cells: &[(u32, Result<Cell, BankFault
     }
 }
 
+// Asks for the size and the limit.
+fn measures<B: Bank>(rt: &impl Abort, bank: &B, size: u32, limit: u32) {
+    assert_eq!(rt; (bank.size(), bank.word_limit()), (size, limit));
+}
+
 // A cell whose car alone is not nil.
 fn with_car(word: Word) -> Cell {
     Cell {
@@ -52,7 +57,7 @@ fn packs(rt: HostRuntime) {
 fn packed_memory(rt: HostRuntime) {
     let mut words = [7u64; 4097];
     let mut bank = PackedBank::new(&mut words);
-    assert_eq!(rt; bank.size(), 4096);
+    measures(&rt, &bank, 4096, 268_435_455);
     tries(
         &rt,
         &mut bank,
@@ -81,7 +86,7 @@ fn packed_memory(rt: HostRuntime) {
 fn windows(rt: HostRuntime) {
     let mut cells = [Cell::BLANK; 4];
     let mut window = Window::new(RecordBank::new(&mut cells), 2, 3);
-    assert_eq!(rt; window.size(), 2);
+    measures(&rt, &window, 2, u32::MAX);
     let widest = Word::Atom(u32::MAX);
     tries(
         &rt,
@@ -92,9 +97,9 @@ fn windows(rt: HostRuntime) {
         ],
     );
     let past = Window::new(window.into_below(), 4, 1);
-    assert_eq!(rt; past.size(), 0);
+    measures(&rt, &past, 0, u32::MAX);
     let far = Window::new(past.into_below(), u32::MAX, u32::MAX);
-    assert_eq!(rt; far.size(), 0);
+    measures(&rt, &far, 0, u32::MAX);
     has(&rt, &far, &[(0, Err(BankFault::NoSuchCell(0)))]);
     has(&rt, &far.into_below(), &[(3, Ok(with_car(widest)))]);
 }
@@ -104,7 +109,7 @@ fn joins(rt: HostRuntime) {
     let mut words = [0u64; 4096];
     let mut cells = [Cell::BLANK; 1];
     let mut join = Join::new(PackedBank::new(&mut words), RecordBank::new(&mut cells));
-    assert_eq!(rt; (join.size(), join.word_limit()), (4096, 268_435_455));
+    measures(&rt, &join, 4096, 268_435_455);
     tries(
         &rt,
         &mut join,
