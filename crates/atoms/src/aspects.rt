@@ -1,4 +1,5 @@
 //! The kind whose values are aspects: the upper bits of the code tell the aspect, the lowest 8 its number.
+ghost use Rattle.std.specs.Prelude.{◌≡◌, ◌≤◌};
 ghost use Rattle.atoms.specs.Aspects.{aspect_code, aspect_of};
 ghost use Rattle.atoms.specs.Laws.{aspects-law};
 
@@ -28,9 +29,27 @@ impl Kind for Aspects {
     fn value(&self, code: u32) -> Option<Aspect> {
         match code {
             0 => Some(Aspect::Clear),
-            256..=511 => Some(Aspect::Hold(Seconds::new((code - 256) as u8))),
-            512..=767 => Some(Aspect::Occupied(Train::new((code - 512) as u8))),
+            256..=511 => Some(held(code)),
+            512..=767 => Some(occupied(code)),
             _ => None,
         }
     }
+}
+
+// The hold that has a code of the block from 256 on.
+fn held(code: u32) -> Aspect
+    requires from { 256 ≤ code }
+    requires to { code ≤ 511 }
+    ensures { code ≡ aspect_code result }
+{
+    Aspect::Hold(Seconds::new((code - 256) as u8))
+}
+
+// The occupied block that has a code of the block from 512 on.
+fn occupied(code: u32) -> Aspect
+    requires from { 512 ≤ code }
+    requires to { code ≤ 767 }
+    ensures { code ≡ aspect_code result }
+{
+    Aspect::Occupied(Train::new((code - 512) as u8))
 }

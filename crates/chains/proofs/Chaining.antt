@@ -9,7 +9,7 @@ use Rattle.bank.specs.declared.fault.BankFault.{BankFault}
 use Rattle.bank.specs.Words.{blank}
 use Rattle.bank.specs.Banks.{fits, taken, cell_put}
 use Rattle.bank.proofs.Laws.{cell_put-whole}
-use Rattle.chains.specs.Chains.{link, chain, chain_taken, atom_in, atoms_from}
+use Rattle.chains.specs.Chains.{link, link_before, chain, chain_taken, atom_in, atoms_from}
 
 pub length-chain : (n : ℕ) (xs : List ℕ) → length (chain n xs) ≡ length xs
 length-chain n [] = refl
@@ -17,9 +17,9 @@ length-chain n (a ∷ xs) = ap suc (length-chain (suc n) xs)
 
 -- The k-th cell of a chain.
 abbrev pub cell_at : ℕ → ℕ → ℕ → Cell
-cell_at a n next = record { car = Word.Atom a; cdr = cond (ltb (n + 1) next) (Word.Cell (n + 1)) Word.Nil; mark = false }
+cell_at a n next = record { car = Word.Atom a; cdr = link_before next n; mark = false }
 
-cdr-last : (n : ℕ) (xs : List ℕ) → link n xs ≡ cond (ltb (n + 1) (n + length (0 ∷ xs))) (Word.Cell (n + 1)) Word.Nil
+cdr-last : (n : ℕ) (xs : List ℕ) → link n xs ≡ link_before (n + length (0 ∷ xs)) n
 cdr-last n [] = grind (arith, common_steps)
 cdr-last n (b ∷ xs) = grind (arith, common_steps)
 
@@ -28,7 +28,7 @@ get_or-chain n [] k next i h e f = let no : ⊥ = omega arith in absurd no
 get_or-chain n (a ∷ xs) zero next i h e f =
     let at : i ≡ n = omega arith in
     let end : next ≡ n + length (0 ∷ xs) = e in
-    ap (λ w. record { car = Word.Atom a; cdr = w; mark = false }) (cdr-last n xs ∙ ap (λ m. cond (ltb (n + 1) m) (Word.Cell (n + 1)) Word.Nil) (sym end))
+    ap (λ w. record { car = Word.Atom a; cdr = w; mark = false }) (cdr-last n xs ∙ ap (λ m. link_before m n) (sym end))
     ∙ ap (λ m. cell_at a m next) (sym at)
 get_or-chain n (a ∷ xs) (suc k) next i h e f = get_or-chain (suc n) xs k next i (omega arith) (omega arith) (omega arith)
 
@@ -102,7 +102,7 @@ read_all was left total so none = grind (arith, common_steps)
 cdr-fits : (limit size from next : ℕ) (xs : List ℕ) (i : ℕ) → Takes limit size from xs next → size ≤ 4096 → 4095 ≤ limit → (b : Bool) → ltb (from + i + 1) next ≡ b → fits limit (cond b (Word.Cell (from + i + 1)) Word.Nil) ≡ true
 cdr-fits limit size from next xs i takes few wide b t = grind (arith, common_steps, takes.next-is, takes.each)
 
-pub chain-step : (limit size from next : ℕ) (xs : List ℕ) (cells was after : List Cell) (i : ℕ) (w : Word) → Takes limit size from xs next → size ≡ length cells → size ≤ 4096 → 4095 ≤ limit → i < length xs → w ≡ cond (ltb (from + i + 1) next) (Word.Cell (from + i + 1)) Word.Nil → was ≡ paste cells from (chain from xs) i → after ≡ cell_put limit was (from + i) (record { car = Word.Atom (get_or xs i 0); cdr = w; mark = false }) → after ≡ paste cells from (chain from xs) (i + 1)
+pub chain-step : (limit size from next : ℕ) (xs : List ℕ) (cells was after : List Cell) (i : ℕ) (w : Word) → Takes limit size from xs next → size ≡ length cells → size ≤ 4096 → 4095 ≤ limit → i < length xs → w ≡ link_before next (from + i) → was ≡ paste cells from (chain from xs) i → after ≡ cell_put limit was (from + i) (record { car = Word.Atom (get_or xs i 0); cdr = w; mark = false }) → after ≡ paste cells from (chain from xs) (i + 1)
 chain-step limit size from next xs cells was after i w takes long few wide h w-is was-is after_is =
     let fit = (takes.each i h).1 in
     let here : from + i < length cells = omega (arith, (takes.each i h).0) in

@@ -11,6 +11,10 @@ abbrev pub link : ℕ → List ℕ → Word
 link n [] = Word.Nil
 link n (a ∷ xs) = Word.Cell (suc n)
 
+-- The same, when the cells that follow end before cell next.
+abbrev pub link_before : ℕ → ℕ → Word
+link_before next n = if nat_lt (n + 1) next then Word.Cell (n + 1) else Word.Nil
+
 -- A chain in the cells from n on.
 abbrev pub chain : ℕ → List ℕ → List Cell
 chain n [] = []

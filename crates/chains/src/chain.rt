@@ -1,6 +1,6 @@
 ghost use Rattle.std.specs.Prelude.{◌≡◌, length, is_ok, IfOk, if◌then◌else◌};
 ghost use Rattle.bank.specs.declared.word.Word.{Word};
-ghost use Rattle.chains.specs.Chains.{chain, chain_taken, placed, atoms_from};
+ghost use Rattle.chains.specs.Chains.{chain, chain_taken, link_before, placed, atoms_from};
 
 use bank::{Bank, BankFault, Cell, Word};
 use std::alloc::{AllocError, Global};
@@ -15,21 +15,25 @@ pub fn write_chain<B: Bank>(bank: &mut B, from: u32, atoms: &[u32]) -> Result<u3
     let next = check_chain(bank.word_limit(), bank.size(), from, atoms)?;
     for (i, atom) in atoms.iter().enumerate() {
         let n = from + i as u32;
-        let cdr = if n + 1 < next {
-            Word::Cell(n + 1)
-        } else {
-            Word::Nil
+        let cell = Cell {
+            car: Word::Atom(*atom),
+            cdr: cdr_of(n, next),
+            mark: false,
         };
-        bank.write_cell(
-            n,
-            Cell {
-                car: Word::Atom(*atom),
-                cdr,
-                mark: false,
-            },
-        );
+        bank.write_cell(n, cell);
     }
     Ok(next)
+}
+
+// The cdr of cell n of a chain that ends before cell `next`.
+fn cdr_of(n: u32, next: u32) -> Word
+    ensures { result ≡ link_before next n }
+{
+    if next.saturating_sub(n) > 1 {
+        Word::Cell(n + 1)
+    } else {
+        Word::Nil
+    }
 }
 
 #[tactic(auto, using(crate::proofs::Chaining::of_checking))]
