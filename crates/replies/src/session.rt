@@ -20,8 +20,7 @@ use store::Store;
 // Most replies have no more bytes.
 const USUAL_REPLY_BYTES: usize = 8;
 
-// Writes the replies of a new store over a bank. Generic in the bank, since a store whose bank holds a loan cannot stand in a
-// result at its own type.
+// Writes the replies of a new store over a bank. Generic in the bank: all that the proof then meets is what a bank means.
 fn serve_on<B: Bank + Drop>(
     text: &mut String,
     bank: B,
