@@ -11,6 +11,7 @@ pub fn write_chain<B: Bank>(bank: &mut B, from: u32, atoms: &[u32]) -> Result<u3
     ensures answer { result ≡ chain_taken (B.limit bank.old) (length (B.cells bank.old)) from atoms.now }
     ensures after { B.cells bank.new ≡ (if is_ok result then placed (B.cells bank.old) from (chain from atoms.now) else B.cells bank.old) }
     ensures fixed { B.limit bank.new ≡ B.limit bank.old }
+    ensures beside { B.beside bank.new ≡ B.beside bank.old }
 {
     let next = check_chain(bank.word_limit(), bank.size(), from, atoms)?;
     for (i, atom) in atoms.iter().enumerate() {

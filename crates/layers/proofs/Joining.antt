@@ -1,7 +1,7 @@
 -- A write through a join.
 use Rattle.std.proofs.Common.{◌≡◌, ℕ, ◌+◌, ◌-◌, ◌<◌, ◌≤◌, min, true, List, ◌++◌, length, get_or, take, drop, Ok, Result, sym, refl, ◌∙◌, arith}
 use Rattle.std.proofs.lemmas.Grind.{common_steps}
-use Rattle.std.proofs.lemmas.List.{length-take, length-append, get_or-take, get_or_append_left, get_or-append_right, set-append_left, set-append_right, drop-set-lt}
+use Rattle.std.proofs.lemmas.List.{length-take, length-append, length-set, get_or-take, get_or_append_left, get_or-append_right, set-append_left, set-append_right, drop-set-lt}
 use Rattle.std.proofs.Math.Seq.{take-set-lt}
 use Rattle.std.proofs.lemmas.Bool.{leb-true, le-leb}
 use Rattle.bank.specs.declared.fault.BankFault.{BankFault}
@@ -84,6 +84,7 @@ pub record Done (l m : ℕ) (change : Change) (first second first' second' : Lis
   pub answer : r ≡ change_taken (min l m) (joined first second) n change
   pub after : joined first' second' ≡ change_put (min l m) (joined first second) n change
   pub front : first' ≡ change_put (min l m) first n change
+  pub split : length first' ≡ length first
   pub past : beyond first' second' ≡ beyond first second
 
 pub done-first : (l m : ℕ) (change : Change) (first second first' : List Cell) (n i : ℕ) (r : Result (Unit {0}) BankFault) → InFirst first second n i → fits (min l m) (word_in change) ≡ true → r ≡ change_taken l first i change → first' ≡ change_put l first i change → Done l m change first second first' second n r
@@ -96,6 +97,7 @@ done-first l m change first second first' n i r side fit answer after =
       answer = rw (word_taken-here (min l m) (joined first second) n w side.shown fit) (answer ∙ rw side.at (word_taken-here l first n w side.here own));
       after = rw fit all.0;
       front = rw fit now;
+      split = rw now (length-set first n _);
       past = all.1;
     }
 
@@ -109,6 +111,7 @@ done-second l m change first second second' n i r side fit answer after =
       answer = rw (word_taken-here (min l m) (joined first second) n w side.shown fit) (answer ∙ rw side.at (word_taken-here m second (n - length first) w side.here own));
       after = rw fit all.0;
       front = rw fit (sym (changed-past (with_change change) first n side.past));
+      split = refl;
       past = all.1;
     }
 

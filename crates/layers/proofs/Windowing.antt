@@ -1,5 +1,5 @@
 -- A write through a window.
-use Rattle.std.proofs.Common.{◌≡◌, ℕ, ◌+◌, ◌-◌, ◌<◌, min, List, length, get_or, take, drop, Ok, Err, Result, inl, inr, sym, ◌∙◌, arith}
+use Rattle.std.proofs.Common.{◌≡◌, ℕ, ◌+◌, ◌-◌, ◌<◌, min, List, length, get_or, take, drop, Ok, Err, Result, inl, inr, sym, refl, ◌∙◌, arith}
 use Rattle.std.proofs.lemmas.List.{length-take, length-drop, get_or-take, get_or-drop, take-append-drop, drop-drop, take-set-le, drop-set-lt, drop-set-add}
 use Rattle.std.proofs.Math.Seq.{take-set-lt}
 use Rattle.std.proofs.lemmas.Bool.{lt-ltb, cases_Bool}
@@ -35,13 +35,15 @@ pub framed-windowed : (o l : ℕ) (cells : List Cell) → framed o l cells (wind
 unfolding windowed framed
 framed-windowed o l cells = rw (← drop-drop l o cells, take-append-drop l (drop o cells), take-append-drop o cells)
 
+-- A cell of the window changed, and none around it.
+pub around-changed : (o l : ℕ) (f : Cell → Cell) (cells : List Cell) (n : ℕ) → n < length (windowed o l cells) → (take o (changed f cells (o + n)) ≡ take o cells) × (drop (o + l) (changed f cells (o + n)) ≡ drop (o + l) cells)
+around-changed o l f cells n h = (take-set-le o cells (o + n) _ (omega arith), drop-set-lt (o + l) cells (o + n) _ (omega (arith, (inside o l cells n h).1)))
+
 pub framed-changed : (o l : ℕ) (f : Cell → Cell) (cells : List Cell) (n : ℕ) → n < length (windowed o l cells) → framed o l cells (changed f (windowed o l cells) n) ≡ changed f cells (o + n)
 unfolding framed
 framed-changed o l f cells n h =
-    let after = changed f cells (o + n) in
-    let front : take o after ≡ take o cells = take-set-le o cells (o + n) _ (omega arith) in
-    let back : drop (o + l) after ≡ drop (o + l) cells = drop-set-lt (o + l) cells (o + n) _ (omega (arith, (inside o l cells n h).1)) in
-    rw (← changed-windowed o l f cells n h, ← front, ← back) (framed-windowed o l after)
+    let around = around-changed o l f cells n h in
+    rw (← changed-windowed o l f cells n h, ← around.0, ← around.1) (framed-windowed o l (changed f cells (o + n)))
 
 -- A change through a window, as the change below.
 pub put-windowed : (limit o l : ℕ) (change : Change) (cells : List Cell) (n : ℕ) → n < length (windowed o l cells) → windowed o l (change_put limit cells (o + n) change) ≡ change_put limit (windowed o l cells) n change
@@ -55,6 +57,14 @@ framed-put limit o l change cells n h =
       | inr t ↦ rw t (framed-windowed o l cells)
     ]
 
+pub around-put : (limit o l : ℕ) (change : Change) (cells : List Cell) (n : ℕ) → n < length (windowed o l cells)
+    → (take o (change_put limit cells (o + n) change) ≡ take o cells) × (drop (o + l) (change_put limit cells (o + n) change) ≡ drop (o + l) cells)
+around-put limit o l change cells n h =
+    elim (cases_Bool (fits limit (word_in change))) [
+      | inl t ↦ rw t (around-changed o l (with_change change) cells n h)
+      | inr t ↦ rw t (refl, refl)
+    ]
+
 -- A whole cell put through a window, where it has cell n.
 module _ (limit o l : ℕ) (cells after : List Cell) (n m : ℕ) (cell : Cell) (there : Ok m ≡ on_cell (windowed o l cells) n (Ok (o + n))) (put : after ≡ cell_put limit cells m cell) where
   as_below : (n < length (windowed o l cells)) × (after ≡ changed (merged limit cell) cells (o + n))
@@ -66,6 +76,12 @@ module _ (limit o l : ℕ) (cells after : List Cell) (n m : ℕ) (cell : Cell) (
   pub whole_framed : after ≡ framed o l cells (cell_put limit (windowed o l cells) n cell)
   whole_framed = as_below.1 ∙ sym (framed-changed o l (merged limit cell) cells n as_below.0)
 
+  pub whole_before : take o after ≡ take o cells
+  whole_before = rw as_below.1 (around-changed o l (merged limit cell) cells n as_below.0).0
+
+  pub whole_behind : drop (o + l) after ≡ drop (o + l) cells
+  whole_behind = rw as_below.1 (around-changed o l (merged limit cell) cells n as_below.0).1
+
 -- And where it has none.
 pub whole_past : (limit o l : ℕ) (cells : List Cell) (n : ℕ) (cell : Cell) (fault : BankFault) → Err fault ≡ on_cell (windowed o l cells) n (Ok (o + n)) → cells ≡ framed o l cells (cell_put limit (windowed o l cells) n cell)
 whole_past limit o l cells n cell fault e =
@@ -73,7 +89,7 @@ whole_past limit o l cells n cell fault e =
     rw (changed-past (merged limit cell) (windowed o l cells) n past) (sym (framed-windowed o l cells))
 
 -- What the write of a whole cell uses.
-pub ruleset of_laying = (whole_after, whole_past)
+pub ruleset of_laying = (whole_after, whole_before, whole_behind, whole_past)
 
 -- How many cells a window shows.
 pub ruleset of_size = (length-windowed)

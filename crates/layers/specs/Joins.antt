@@ -1,5 +1,5 @@
 -- Two lists of cells as one.
-use Rattle.std.specs.Prelude.{ℕ, ◌-◌, min, if◌then◌else◌, List, ◌++◌, take, drop, nat_lt}
+use Rattle.std.specs.Prelude.{ℕ, ◌-◌, min, if◌then◌else◌, List, ◌++◌, length, take, drop, nat_lt}
 use Rattle.std.proofs.Common.{arith, length-take}
 use Rattle.bank.specs.declared.word.Cell.{Cell}
 use Rattle.bank.specs.Banks.{Sound}
@@ -24,6 +24,25 @@ join_cells cells cells' j = joined (cells j.first) (cells' j.second)
 
 abbrev pub join_limit : {F G : Type 0} → (F → ℕ) → (G → ℕ) → Join F G → ℕ
 join_limit limit limit' j = min (limit j.first) (limit' j.second)
+
+-- What stands beside the cells that a join shows: where the first bank ends, the cells past those shown, and each bank's limit and what stands beside its cells.
+pub record BesideJoin (A C : Type 0) : Type 0 where
+  pub split : ℕ
+  pub past : List Cell
+  pub first_limit : ℕ
+  pub second_limit : ℕ
+  pub first : A
+  pub second : C
+
+abbrev pub join_beside : {A C F G : Type 0} → (F → ℕ) → (G → ℕ) → (F → List Cell) → (G → List Cell) → (F → A) → (G → C) → Join F G → BesideJoin A C
+join_beside limit limit' cells cells' beside beside' j = record {
+  split = length (cells j.first);
+  past = beyond (cells j.first) (cells' j.second);
+  first_limit = limit j.first;
+  second_limit = limit' j.second;
+  first = beside j.first;
+  second = beside' j.second;
+}
 
 pub sound-join : {l m : ℕ} {first second : List Cell} → Sound l first → Sound m second → Sound (min l m) (joined first second)
 unfolding joined

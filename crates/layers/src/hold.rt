@@ -41,6 +41,7 @@ impl<B: Bank> Hold<B> {
         ensures below { B.Bank.cells self.new.below ≡ hold_cells B.Bank.limit B.Bank.cells self.old }
         ensures empty { self.new.places.slots ≡ none_kept }
         ensures fixed { B.Bank.limit self.new.below ≡ B.Bank.limit self.old.below }
+        ensures beside { B.Bank.beside self.new.below ≡ B.Bank.beside self.old.below }
     {
         for i in 0..16 {
             self.spill(i);
@@ -53,6 +54,7 @@ impl<B: Bank> Hold<B> {
         ensures below { B.Bank.cells self.new.below ≡ spilled (B.Bank.limit self.old.below) (slice_index_or self.old.places.slots (n % 16) None) (n % 16) (B.Bank.cells self.old.below) }
         ensures empty { self.new.places.slots ≡ slice_set self.old.places.slots (n % 16) None }
         ensures fixed { B.Bank.limit self.new.below ≡ B.Bank.limit self.old.below }
+        ensures beside { B.Bank.beside self.new.below ≡ B.Bank.beside self.old.below }
     {
         if let Some(kept) = self.places.take(n) {
             self.below.write_cell(kept.number(n), kept.cell);
@@ -64,6 +66,7 @@ impl<B: Bank> Hold<B> {
         ensures below { B.Bank.cells self.new.below ≡ evicted (B.Bank.limit self.old.below) (slice_index_or self.old.places.slots (n % 16) None) n (B.Bank.cells self.old.below) }
         ensures rest { (p : Option Kept) → slice_set self.new.places.slots (n % 16) p ≡ slice_set self.old.places.slots (n % 16) p }
         ensures fixed { B.Bank.limit self.new.below ≡ B.Bank.limit self.old.below }
+        ensures beside { B.Bank.beside self.new.below ≡ B.Bank.beside self.old.below }
     {
         if let Some(kept) = self.places.get(n)
             && !kept.is_cell(n)
@@ -80,6 +83,7 @@ impl<B: Bank> Hold<B> {
         ensures kept { self.new.places.slots ≡ slice_set self.old.places.slots (n % 16) (kept_for n cell) }
         ensures below { B.Bank.cells self.new.below ≡ evicted (B.Bank.limit self.old.below) (slice_index_or self.old.places.slots (n % 16) None) n (B.Bank.cells self.old.below) }
         ensures fixed { B.Bank.limit self.new.below ≡ B.Bank.limit self.old.below }
+        ensures beside { B.Bank.beside self.new.below ≡ B.Bank.beside self.old.below }
     {
         self.evict(n);
         self.places.keep(n, cell);
@@ -92,6 +96,11 @@ impl<B: Bank> Bank for Hold<B> {
     ghost cells = { hold_cells B.Bank.limit B.Bank.cells };
 
     ghost sound = { λ s. sound-hold s.places.slots (B.Bank.sound s.below) };
+
+    // What is written late is written into the cells below, so nothing but what stands beside those is left.
+    ghost Beside = { B.Bank.Beside };
+
+    ghost beside = { λ s. B.Bank.beside s.below };
 
     #[tactic(auto, using(crate::proofs::Holding::of_size))]
     fn size(&self) -> u32 {
@@ -112,6 +121,7 @@ impl<B: Bank> Bank for Hold<B> {
         ensures answer { result ≡ change_taken (B.Bank.limit self.old.below) (hold_cells B.Bank.limit B.Bank.cells self.old) n change }
         ensures after { hold_cells B.Bank.limit B.Bank.cells self.new ≡ change_put (B.Bank.limit self.old.below) (hold_cells B.Bank.limit B.Bank.cells self.old) n change }
         ensures fixed { B.Bank.limit self.new.below ≡ B.Bank.limit self.old.below }
+        ensures beside { B.Bank.beside self.new.below ≡ B.Bank.beside self.old.below }
         ensures kept { self.new.places.slots ≡ (if is_ok result then slice_set self.old.places.slots (n % 16) (kept_for n (with_change change (slice_index_or (hold_cells B.Bank.limit B.Bank.cells self.old) n blank))) else self.old.places.slots) }
         ensures below { B.Bank.cells self.new.below ≡ (if is_ok result then evicted (B.Bank.limit self.old.below) (slice_index_or self.old.places.slots (n % 16) None) n (B.Bank.cells self.old.below) else B.Bank.cells self.old.below) }
     {
@@ -124,6 +134,7 @@ impl<B: Bank> Bank for Hold<B> {
     fn write_cell(&mut self, n: u32, cell: Cell)
         ensures after { hold_cells B.Bank.limit B.Bank.cells self.new ≡ cell_put (B.Bank.limit self.old.below) (hold_cells B.Bank.limit B.Bank.cells self.old) n cell }
         ensures fixed { B.Bank.limit self.new.below ≡ B.Bank.limit self.old.below }
+        ensures beside { B.Bank.beside self.new.below ≡ B.Bank.beside self.old.below }
         ensures kept { self.new.places.slots ≡ (if nat_lt n (length (B.Bank.cells self.old.below)) then slice_set self.old.places.slots (n % 16) (kept_for n (merged (B.Bank.limit self.old.below) cell (slice_index_or (hold_cells B.Bank.limit B.Bank.cells self.old) n blank))) else self.old.places.slots) }
         ensures below { B.Bank.cells self.new.below ≡ (if nat_lt n (length (B.Bank.cells self.old.below)) then evicted (B.Bank.limit self.old.below) (slice_index_or self.old.places.slots (n % 16) None) n (B.Bank.cells self.old.below) else B.Bank.cells self.old.below) }
     {

@@ -1,6 +1,6 @@
 ghost use Rattle.std.specs.Prelude.{◌≡◌, length, Ok};
 ghost use Rattle.bank.specs.Banks.{on_cell, change_taken, change_put, cell_put};
-ghost use Rattle.layers.specs.Joins.{join_cells, join_limit, beyond, side_of, sound-join};
+ghost use Rattle.layers.specs.Joins.{BesideJoin, join_cells, join_limit, join_beside, side_of, sound-join};
 
 use bank::{Bank, BankFault, Cell, Change, MOST_CELLS};
 
@@ -56,6 +56,10 @@ impl<F: Bank, G: Bank> Bank for Join<F, G> {
 
     ghost sound = { λ s. sound-join (F.Bank.sound s.first) (G.Bank.sound s.second) };
 
+    ghost Beside = { BesideJoin F.Bank.Beside G.Bank.Beside };
+
+    ghost beside = { join_beside F.Bank.limit G.Bank.limit F.Bank.cells G.Bank.cells F.Bank.beside G.Bank.beside };
+
     #[tactic(auto, using(crate::proofs::Joining::of_size))]
     fn size(&self) -> u32 {
         (self.first.size() + self.second.size()).min(MOST_CELLS)
@@ -77,9 +81,7 @@ impl<F: Bank, G: Bank> Bank for Join<F, G> {
         ensures answer { result ≡ change_taken (join_limit F.Bank.limit G.Bank.limit self.old) (join_cells F.Bank.cells G.Bank.cells self.old) n change }
         ensures after { join_cells F.Bank.cells G.Bank.cells self.new ≡ change_put (join_limit F.Bank.limit G.Bank.limit self.old) (join_cells F.Bank.cells G.Bank.cells self.old) n change }
         ensures first { F.Bank.cells self.new.first ≡ change_put (join_limit F.Bank.limit G.Bank.limit self.old) (F.Bank.cells self.old.first) n change }
-        ensures past { beyond (F.Bank.cells self.new.first) (G.Bank.cells self.new.second) ≡ beyond (F.Bank.cells self.old.first) (G.Bank.cells self.old.second) }
-        ensures first_limit { F.Bank.limit self.new.first ≡ F.Bank.limit self.old.first }
-        ensures second_limit { G.Bank.limit self.new.second ≡ G.Bank.limit self.old.second }
+        ensures beside { join_beside F.Bank.limit G.Bank.limit F.Bank.cells G.Bank.cells F.Bank.beside G.Bank.beside self.new ≡ join_beside F.Bank.limit G.Bank.limit F.Bank.cells G.Bank.cells F.Bank.beside G.Bank.beside self.old }
     {
         let side = self.side(n)?;
         // The wider bank would take a word that the join must refuse.
@@ -94,9 +96,7 @@ impl<F: Bank, G: Bank> Bank for Join<F, G> {
     fn write_cell(&mut self, n: u32, cell: Cell)
         ensures after { join_cells F.Bank.cells G.Bank.cells self.new ≡ cell_put (join_limit F.Bank.limit G.Bank.limit self.old) (join_cells F.Bank.cells G.Bank.cells self.old) n cell }
         ensures first { F.Bank.cells self.new.first ≡ cell_put (join_limit F.Bank.limit G.Bank.limit self.old) (F.Bank.cells self.old.first) n cell }
-        ensures past { beyond (F.Bank.cells self.new.first) (G.Bank.cells self.new.second) ≡ beyond (F.Bank.cells self.old.first) (G.Bank.cells self.old.second) }
-        ensures first_limit { F.Bank.limit self.new.first ≡ F.Bank.limit self.old.first }
-        ensures second_limit { G.Bank.limit self.new.second ≡ G.Bank.limit self.old.second }
+        ensures beside { join_beside F.Bank.limit G.Bank.limit F.Bank.cells G.Bank.cells F.Bank.beside G.Bank.beside self.new ≡ join_beside F.Bank.limit G.Bank.limit F.Bank.cells G.Bank.cells F.Bank.beside G.Bank.beside self.old }
     {
         let _ = self.set(n, Change::Car(cell.car));
         let _ = self.set(n, Change::Cdr(cell.cdr));

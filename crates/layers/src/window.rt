@@ -1,6 +1,6 @@
 ghost use Rattle.std.specs.Prelude.{◌≡◌, ◌+◌, ◌<◌, ◌≤◌, length, Ok};
 ghost use Rattle.bank.specs.Banks.{on_cell, change_taken, change_put, cell_put};
-ghost use Rattle.layers.specs.Windows.{window_cells, framed, sound-window};
+ghost use Rattle.layers.specs.Windows.{BesideWindow, window_cells, window_beside, framed, sound-window};
 
 use bank::{Bank, BankFault, Cell, Change};
 
@@ -51,6 +51,10 @@ impl<B: Bank> Bank for Window<B> {
 
     ghost sound = { λ s. sound-window s.offset s.len (B.Bank.sound s.below) };
 
+    ghost Beside = { BesideWindow B.Bank.Beside };
+
+    ghost beside = { window_beside B.Bank.cells B.Bank.beside };
+
     #[tactic(auto, using(crate::proofs::Windowing::of_size))]
     fn size(&self) -> u32
         ensures value { result ≡ length (window_cells B.Bank.cells self.now) }
@@ -74,8 +78,7 @@ impl<B: Bank> Bank for Window<B> {
         ensures after { window_cells B.Bank.cells self.new ≡ change_put (B.Bank.limit self.old.below) (window_cells B.Bank.cells self.old) n change }
         ensures fixed { B.Bank.limit self.new.below ≡ B.Bank.limit self.old.below }
         ensures framed { B.Bank.cells self.new.below ≡ framed self.old.offset self.old.len (B.Bank.cells self.old.below) (change_put (B.Bank.limit self.old.below) (window_cells B.Bank.cells self.old) n change) }
-        ensures offset { self.new.offset ≡ self.old.offset }
-        ensures len { self.new.len ≡ self.old.len }
+        ensures beside { window_beside B.Bank.cells B.Bank.beside self.new ≡ window_beside B.Bank.cells B.Bank.beside self.old }
     {
         let m = self.number_below(n)?;
         self.below.set(m, change)
@@ -86,8 +89,7 @@ impl<B: Bank> Bank for Window<B> {
         ensures after { window_cells B.Bank.cells self.new ≡ cell_put (B.Bank.limit self.old.below) (window_cells B.Bank.cells self.old) n cell }
         ensures fixed { B.Bank.limit self.new.below ≡ B.Bank.limit self.old.below }
         ensures framed { B.Bank.cells self.new.below ≡ framed self.old.offset self.old.len (B.Bank.cells self.old.below) (cell_put (B.Bank.limit self.old.below) (window_cells B.Bank.cells self.old) n cell) }
-        ensures offset { self.new.offset ≡ self.old.offset }
-        ensures len { self.new.len ≡ self.old.len }
+        ensures beside { window_beside B.Bank.cells B.Bank.beside self.new ≡ window_beside B.Bank.cells B.Bank.beside self.old }
     {
         if let Ok(m) = self.number_below(n) {
             self.below.write_cell(m, cell);

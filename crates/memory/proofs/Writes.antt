@@ -11,9 +11,9 @@ use Rattle.bank.specs.declared.fault.BankFault.{BankFault}
 use Rattle.bank.specs.Words.{blank, word_in, with_change}
 use Rattle.bank.specs.Banks.{fits, asked, writable, change_taken, change_put, merged, cell_put}
 use Rattle.bank.proofs.Laws.{on_cell-here, writable-ok, put-here, put_refused}
-use Rattle.memory.specs.Memories.{front, cleared, shown, stored, Packed}
+use Rattle.memory.specs.Memories.{front, later, cleared, shown, stored, Packed}
 use Rattle.memory.specs.Elements.{fitted}
-use Rattle.memory.proofs.Fronts.{length_front, within-front, front-set, set-over, get_or-front, front-cleared, filled}
+use Rattle.memory.proofs.Fronts.{length_front, within-front, front-set, set-over, get_or-front, later-set, front-cleared, later-cleared, filled}
 
 module _ {X : Type 0} (shows : X → Cell) (m : List X) where
   length-shown : length (shown shows m) ≡ length (front m)
@@ -62,6 +62,13 @@ module _ {X : Type 0} (shows : X → Cell) (m : List X) where
   pub may_fit : (limit n : ℕ) (w : Word) (d : Change) (c : Cell) → w ≡ word_in d → Ok c ≡ writable limit (shown shows m) n w → fits limit (word_in d) ≡ true
   may_fit limit n w d c is e = rw is at (writable-ok limit (shown shows m) n w c e).1
 
+  -- No later element is written.
+  pub whole_later : (n : ℕ) (x : X) → n < length (shown shows m) → later (set m n x) ≡ later m
+  whole_later n x h = later-set m n x (rw length-shown at h)
+
+  pub change_later : (limit n : ℕ) (w : Word) (c : Cell) (x : X) → Ok c ≡ writable limit (shown shows m) n w → later (set m n x) ≡ later m
+  change_later limit n w c x e = whole_later n x (writable-ok limit (shown shows m) n w c e).0
+
 module _ {X : Type 0} (shows : X → Cell) (stores : Cell → X) (m : List X) (c : Cell) (back : shows (stores c) ≡ c) where
   packed-set : (n : ℕ) → Packed shows stores m → Packed shows stores (set m n (stores c))
   packed-set n is =
@@ -86,10 +93,13 @@ module _ {X : Type 0} (m part : List X) (n : ℕ) (x : X) (least : n ≡ min (le
   pub filled_packed : (shows : X → Cell) → shows x ≡ blank → Packed shows stores (part ++ drop n m)
   filled_packed shows back = subst (Packed shows stores) (sym filled_made) (packed-cleared shows stores m blank (ap shows (sym stored_as) ∙ back))
 
+pub filled_later : {X : Type 0} (m part : List X) (n : ℕ) (x : X) → n ≡ min (length m) 4096 → part ≡ replicate (length (take n m)) x → later (part ++ drop n m) ≡ later m
+filled_later m part n x least is = ap later (filled m part n x least is) ∙ later-cleared x m
+
 pub filled_empty : {X : Type 0} (shows : X → Cell) (m part : List X) (n : ℕ) (x : X) → n ≡ min (length m) 4096 → part ≡ replicate (length (take n m)) x → shows x ≡ blank → shown shows (part ++ drop n m) ≡ replicate (min 4096 (length m)) blank
 filled_empty shows m part n x least is back = ap (shown shows) (filled m part n x least is) ∙ shown-cleared shows m x ∙ ap (replicate (min 4096 (length m))) back
 
-pub ruleset of_clearing = (filled_made, filled_packed, filled_empty)
+pub ruleset of_clearing = (filled_made, filled_packed, filled_later, filled_empty)
 
 -- A bank that changes cell n, where it may, to the element x.
 module _ {X : Type 0} (shows : X → Cell) (limit : ℕ) (m : List X) (n : ℕ) (w : Word) (d : Change) (c : Cell) (x y : X) (is : w ≡ word_in d) (may : Ok c ≡ writable limit (shown shows m) n w) (back : shows x ≡ with_change d (shows (get_or m n y))) where
@@ -155,4 +165,4 @@ module _ (cells : List Cell) (limit n : ℕ) (w : Word) (d : Change) (fault : Ba
   refused_after = (put_refused (λ _. with_change d) limit cells n (word_in d) fault (rw is at refused)).1
 
 -- What the methods of a bank use.
-pub ruleset of_memory = (shown_length, within_shown, asked_shown, may_write, may_fit, may_keep, kept_shown, change_after, change_stored, change_packed, whole_after, whole_stored, whole_packed, size_set, refused_answer, refused_after)
+pub ruleset of_memory = (shown_length, within_shown, asked_shown, may_write, may_fit, may_keep, kept_shown, change_after, change_stored, change_packed, change_later, whole_later, whole_after, whole_stored, whole_packed, size_set, refused_answer, refused_after)

@@ -1,7 +1,8 @@
-ghost use Rattle.std.specs.Prelude.{◌≡◌, min, length, replicate, is_ok, nat_lt, if◌then◌else◌, slice_index_or};
+ghost use Rattle.std.specs.Prelude.{◌≡◌, List, min, length, replicate, is_ok, nat_lt, if◌then◌else◌, slice_index_or};
+ghost use Rattle.std.specs.Borrow.{GName};
 ghost use Rattle.bank.specs.Words.{blank, with_change};
 ghost use Rattle.bank.specs.Banks.{change_taken, change_put, cell_put, merged};
-ghost use Rattle.memory.specs.Memories.{cleared, shown, stored, Packed};
+ghost use Rattle.memory.specs.Memories.{cleared, lent_beside, shown, stored, Packed};
 ghost use Rattle.memory.specs.Elements.{fitted, sound-memory};
 
 use super::element::Element;
@@ -26,7 +27,7 @@ pub type RecordBank<'a> = LentBank<'a, Cell>;
 #[tactic(auto, using(crate::proofs::Writes::of_clearing))]
 impl<'a, E: Element> LentBank<'a, E> {
     pub fn new(memory: &'a mut [E]) -> LentBank<'a, E>
-        ensures lent { result.memory.ghost_name ≡ memory.entry.ghost_name }
+        ensures beside { lent_beside result.memory.ghost_name result.memory.now ≡ lent_beside memory.entry.ghost_name memory.old }
         ensures made { result.memory.now ≡ cleared (E.stores blank) memory.old }
         ensures empty { shown E.shows result.memory.now ≡ replicate (min 4096 (length memory.old)) blank }
     {
@@ -46,6 +47,11 @@ impl<'a, E: Element> Bank for LentBank<'a, E> {
     ghost cells = { λ s. shown E.shows s.memory.now };
 
     ghost sound = { λ s. sound-memory E.LIMIT E.shows E.wide s.memory.now };
+
+    // Which memory it is that was lent, and the elements past the cells.
+    ghost Beside = { GName × List E };
+
+    ghost beside = { λ s. lent_beside s.memory.ghost_name s.memory.now };
 
     #[inline(always)]
     fn size(&self) -> u32 {
@@ -72,7 +78,7 @@ impl<'a, E: Element> Bank for LentBank<'a, E> {
         ensures answer { result ≡ change_taken E.LIMIT (shown E.shows self.old.memory.now) n change }
         ensures after { shown E.shows self.new.memory.now ≡ change_put E.LIMIT (shown E.shows self.old.memory.now) n change }
         ensures stored { self.new.memory.now ≡ (if is_ok result then stored (E.stores (with_change change (slice_index_or (shown E.shows self.old.memory.now) n blank))) self.old.memory.now n else self.old.memory.now) }
-        ensures lent { self.new.memory.ghost_name ≡ self.old.memory.ghost_name }
+        ensures beside { lent_beside self.new.memory.ghost_name self.new.memory.now ≡ lent_beside self.old.memory.ghost_name self.old.memory.now }
     {
         self.writable(n, change.word())?;
         let element = self.memory[n as usize].changed(change);
@@ -85,7 +91,7 @@ impl<'a, E: Element> Bank for LentBank<'a, E> {
     fn write_cell(&mut self, n: u32, cell: Cell)
         ensures after { shown E.shows self.new.memory.now ≡ cell_put E.LIMIT (shown E.shows self.old.memory.now) n cell }
         ensures stored { self.new.memory.now ≡ (if nat_lt n (length (shown E.shows self.old.memory.now)) then stored (E.stores (merged E.LIMIT cell (slice_index_or (shown E.shows self.old.memory.now) n blank))) self.old.memory.now n else self.old.memory.now) }
-        ensures lent { self.new.memory.ghost_name ≡ self.old.memory.ghost_name }
+        ensures beside { lent_beside self.new.memory.ghost_name self.new.memory.now ≡ lent_beside self.old.memory.ghost_name self.old.memory.now }
     {
         if n < self.size() {
             let element = self.memory[n as usize];

@@ -18,6 +18,7 @@ impl<B: Bank> Heap<B> {
     pub fn offer(&mut self, word: Word)
         ensures heap { heap_of B.cells self.new ≡ offer word (heap_of B.cells self.old) }
         ensures limit { B.limit self.new.bank ≡ B.limit self.old.bank }
+        ensures beside { B.beside self.new.bank ≡ B.beside self.old.bank }
     {
         let Word::Cell(n) = word else {
             return;
@@ -36,6 +37,7 @@ impl<B: Bank> Heap<B> {
     pub fn offer_all(&mut self, words: &[Word])
         ensures heap { heap_of B.cells self.new ≡ offers words.now (heap_of B.cells self.old) }
         ensures limit { B.limit self.new.bank ≡ B.limit self.old.bank }
+        ensures beside { B.beside self.new.bank ≡ B.beside self.old.bank }
     {
         for word in words {
             self.offer(*word);
@@ -47,6 +49,7 @@ impl<B: Bank> Heap<B> {
     fn offer_fields(&mut self, cell: Cell)
         ensures heap { heap_of B.cells self.new ≡ offer cell.cdr (offer cell.car (heap_of B.cells self.old)) }
         ensures limit { B.limit self.new.bank ≡ B.limit self.old.bank }
+        ensures beside { B.beside self.new.bank ≡ B.beside self.old.bank }
     {
         let Cell { car, cdr, mark: _ } = cell;
         self.offer(car);
@@ -59,6 +62,7 @@ impl<B: Bank> Heap<B> {
         ensures heap { heap_of B.cells self.new ≡ scan (heap_of B.cells self.old) }
         ensures popped { result ≡ length (latest (heap_of B.cells self.old).stack) }
         ensures limit { B.limit self.new.bank ≡ B.limit self.old.bank }
+        ensures beside { B.beside self.new.bank ≡ B.beside self.old.bank }
     {
         let Some(n) = self.waiting.pop() else {
             return 0;
@@ -77,6 +81,7 @@ impl<B: Bank> Heap<B> {
         ensures heap { heap_of B.cells self.new ≡ scans k (heap_of B.cells self.old) }
         ensures popped { result ≡ length (scanned k (heap_of B.cells self.old)) }
         ensures limit { B.limit self.new.bank ≡ B.limit self.old.bank }
+        ensures beside { B.beside self.new.bank ≡ B.beside self.old.bank }
     {
         let mut popped = 0;
         for _ in 0..k {

@@ -17,6 +17,7 @@ pub fn link<B: Bank>(bank: &mut B) -> u32
     ensures size { result ≡ length (B.cells bank.old) }
     ensures after { B.cells bank.new ≡ linked 0 (length (B.cells bank.old)) }
     ensures fixed { B.limit bank.new ≡ B.limit bank.old }
+    ensures beside { B.beside bank.new ≡ B.beside bank.old }
 {
     let size = bank.size();
     for n in 0..size {
@@ -36,6 +37,7 @@ pub fn fill<B: Bank>(bank: &mut B, h: u32, cell: Cell) -> Result<(), BankFault>
     ensures answer { result ≡ filling (B.limit bank.old) (B.cells bank.old) h cell.car cell.cdr }
     ensures after { B.cells bank.new ≡ filled (B.limit bank.old) (B.cells bank.old) h cell.car cell.cdr cell.mark }
     ensures fixed { B.limit bank.new ≡ B.limit bank.old }
+    ensures beside { B.beside bank.new ≡ B.beside bank.old }
 {
     bank.writable(h, cell.car)?;
     if let Err(fault) = cell.cdr.within(bank.word_limit()) {

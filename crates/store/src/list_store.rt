@@ -42,11 +42,17 @@ pub trait ListStore {
 
     ghost rule: { Self → Self.Rule };
 
+    // What stands beside the cells of the bank that the store is over. That it stays is a clause of each call too.
+    ghost Beside: { Type 0 };
+
+    ghost beside: { Self → Beside };
+
     /// Sets register i to the atom of a value.
     fn load(&mut self, i: u32, value: &Self::Value) -> Result<(), StoreFault>
         ensures state { state self.new ≡ (call_under says (rule self.old) (state self.old) (Call.Load i value.now)).state }
         ensures answer { outcome_of result ≡ (call_under says (rule self.old) (state self.old) (Call.Load i value.now)).outcome }
         ensures kind { kind self.new ≡ kind self.old }
+        ensures beside { beside self.new ≡ beside self.old }
         ensures rule { rule self.new ≡ rule self.old };
 
     /// Sets register i to nil.
@@ -54,6 +60,7 @@ pub trait ListStore {
         ensures state { state self.new ≡ (call_under says (rule self.old) (state self.old) (Call.Clear i)).state }
         ensures answer { outcome_of result ≡ (call_under says (rule self.old) (state self.old) (Call.Clear i)).outcome }
         ensures kind { kind self.new ≡ kind self.old }
+        ensures beside { beside self.new ≡ beside self.old }
         ensures rule { rule self.new ≡ rule self.old };
 
     /// Sets register i to register a's word.
@@ -61,6 +68,7 @@ pub trait ListStore {
         ensures state { state self.new ≡ (call_under says (rule self.old) (state self.old) (Call.Copy i a)).state }
         ensures answer { outcome_of result ≡ (call_under says (rule self.old) (state self.old) (Call.Copy i a)).outcome }
         ensures kind { kind self.new ≡ kind self.old }
+        ensures beside { beside self.new ≡ beside self.old }
         ensures rule { rule self.new ≡ rule self.old };
 
     /// Makes a turn, takes a free cell for register i and puts the words of a and b into it; the work of the turn.
@@ -68,6 +76,7 @@ pub trait ListStore {
         ensures state { state self.new ≡ (call_under says (rule self.old) (state self.old) (Call.Cons i a b)).state }
         ensures answer { outcome_by Answer.Worked result ≡ (call_under says (rule self.old) (state self.old) (Call.Cons i a b)).outcome }
         ensures kind { kind self.new ≡ kind self.old }
+        ensures beside { beside self.new ≡ beside self.old }
         ensures rule { RuleAfter becomes (asks (state self.old) (Call.Cons i a b)) (rule self.old) (state self.old).pool.count (rule self.new) };
 
     /// Copies the car of the cell in register a into register i.
@@ -75,6 +84,7 @@ pub trait ListStore {
         ensures state { state self.new ≡ (call_under says (rule self.old) (state self.old) (Call.Car i a)).state }
         ensures answer { outcome_of result ≡ (call_under says (rule self.old) (state self.old) (Call.Car i a)).outcome }
         ensures kind { kind self.new ≡ kind self.old }
+        ensures beside { beside self.new ≡ beside self.old }
         ensures rule { rule self.new ≡ rule self.old };
 
     /// Copies the cdr of the cell in register a into register i.
@@ -82,6 +92,7 @@ pub trait ListStore {
         ensures state { state self.new ≡ (call_under says (rule self.old) (state self.old) (Call.Cdr i a)).state }
         ensures answer { outcome_of result ≡ (call_under says (rule self.old) (state self.old) (Call.Cdr i a)).outcome }
         ensures kind { kind self.new ≡ kind self.old }
+        ensures beside { beside self.new ≡ beside self.old }
         ensures rule { rule self.new ≡ rule self.old };
 
     /// Puts register b's word into the car of the cell in register a.
@@ -89,6 +100,7 @@ pub trait ListStore {
         ensures state { state self.new ≡ (call_under says (rule self.old) (state self.old) (Call.Rplaca a b)).state }
         ensures answer { outcome_of result ≡ (call_under says (rule self.old) (state self.old) (Call.Rplaca a b)).outcome }
         ensures kind { kind self.new ≡ kind self.old }
+        ensures beside { beside self.new ≡ beside self.old }
         ensures rule { rule self.new ≡ rule self.old };
 
     /// Puts register b's word into the cdr of the cell in register a.
@@ -96,6 +108,7 @@ pub trait ListStore {
         ensures state { state self.new ≡ (call_under says (rule self.old) (state self.old) (Call.Rplacd a b)).state }
         ensures answer { outcome_of result ≡ (call_under says (rule self.old) (state self.old) (Call.Rplacd a b)).outcome }
         ensures kind { kind self.new ≡ kind self.old }
+        ensures beside { beside self.new ≡ beside self.old }
         ensures rule { rule self.new ≡ rule self.old };
 
     /// What register i holds.
@@ -130,6 +143,7 @@ pub trait ListStore {
         ensures state { state self.new ≡ (call_under says (rule self.old) (state self.old) call.now).state }
         ensures answer { result ≡ (call_under says (rule self.old) (state self.old) call.now).outcome }
         ensures kind { kind self.new ≡ kind self.old }
+        ensures beside { beside self.new ≡ beside self.old }
         ensures rule { RuleAfter becomes (asks (state self.old) call.now) (rule self.old) (state self.old).pool.count (rule self.new) }
     {
         match call {

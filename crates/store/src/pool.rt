@@ -22,6 +22,7 @@ impl Pool {
         requires unmarked { (slice_index_or (B.cells bank.old) n blank).mark ≡ false }
         ensures ground { ground_of B.cells bank.new self.new ≡ treat false false (B.limit bank.old) n (ground_of B.cells bank.old self.old) }
         ensures limit { B.limit bank.new ≡ B.limit bank.old }
+        ensures beside { B.beside bank.new ≡ B.beside bank.old }
     {
         // A refusal is passed over here as in the definition, and so below; no run meets one.
         let free = Cell {
@@ -43,6 +44,7 @@ impl Pool {
         requires read { cell ≡ slice_index_or (B.cells bank.old) n blank }
         ensures ground { ground_of B.cells bank.new self.new ≡ treat cell.mark (is_reserved cell.cdr) (B.limit bank.old) n (ground_of B.cells bank.old self.old) }
         ensures limit { B.limit bank.new ≡ B.limit bank.old }
+        ensures beside { B.beside bank.new ≡ B.beside bank.old }
     {
         match (cell.mark, cell.cdr) {
             (true, _) => {
@@ -62,6 +64,7 @@ impl Pool {
     fn sweep<B: Bank>(&mut self, bank: &mut B) -> bool
         ensures ground { ground_of B.cells bank.new self.new ≡ sweep (B.limit bank.old) (ground_of B.cells bank.old self.old) }
         ensures limit { B.limit bank.new ≡ B.limit bank.old }
+        ensures beside { B.beside bank.new ≡ B.beside bank.old }
     {
         let n = self.sweeper;
         let Ok(cell) = bank.cell(n) else {
@@ -79,6 +82,7 @@ impl Pool {
         ensures ground { ground_of B.cells bank.new self.new ≡ sweeps (B.limit bank.old) k (ground_of B.cells bank.old self.old) }
         ensures swept { result ≡ min k (length (B.cells bank.old) - self.old.sweeper) }
         ensures limit { B.limit bank.new ≡ B.limit bank.old }
+        ensures beside { B.beside bank.new ≡ B.beside bank.old }
     {
         let swept = u32::from(k).min(bank.size().saturating_sub(self.sweeper));
         // A copy of its own, which the loop can hold in registers.

@@ -33,6 +33,7 @@ pub fn go_on<S: ListStore>(store: &mut S, call: &Call<S::Value>) -> Outcome<S::V
     ensures state { S.state store.new ≡ (call_under S.says (S.rule store.old) (S.state store.old) call.now).state }
     ensures answer { result ≡ (call_under S.says (S.rule store.old) (S.state store.old) call.now).outcome }
     ensures kind { S.kind store.new ≡ S.kind store.old }
+    ensures beside { S.beside store.new ≡ S.beside store.old }
     ensures rule { RuleAfter S.becomes (asks (S.state store.old) call.now) (S.rule store.old) (S.state store.old).pool.count (S.rule store.new) }
     ensures law { GoesOn S.says S.becomes (S.state store.old) (S.rule store.old) call.now result (S.state store.new) (S.rule store.new) }
 {
@@ -43,6 +44,7 @@ pub fn go_on<S: ListStore>(store: &mut S, call: &Call<S::Value>) -> Outcome<S::V
 fn finish<S: ListStore>(heap: Global, mut store: S, calls: &[Call<S::Value>]) -> Run<S, S::Value>
     ensures law { (fixed : Fixed S.Value) (size : ℕ) → S.state store ≡ new fixed size → Ran S.says S.becomes fixed size (S.rule store) calls.now S.state S.rule result }
     ensures kind { S.kind (store_of result) ≡ S.kind store }
+    ensures beside { S.beside (store_of result) ≡ S.beside store }
 {
     let mut outcomes = Vec::new(heap);
     for call in calls {
@@ -70,6 +72,7 @@ pub fn run<B: Bank, K: Kind, R: StartRule>(
     ensures law { Ran R.says R.becomes (fixed_by B.limit K.coded K.valued R.floor bank kind rule effort) (length (B.cells bank)) rule calls.now
         ⟦<Store<B, K, R> as ListStore>⟧.state ⟦<Store<B, K, R> as ListStore>⟧.rule result }
     ensures kind { (store_of result).kind ≡ kind }
+    ensures beside { B.beside (store_of result).heap.bank ≡ B.beside bank }
 {
     let store = Store::new(bank, kind, rule, effort);
     finish(heap, store, calls)

@@ -45,6 +45,7 @@ impl<B: Bank, K: Kind, R: StartRule> Store<B, K, R> {
             new_state (fixed_by B.limit K.coded K.valued R.floor bank kind rule effort) (length (B.cells bank)) }
         ensures kind { result.kind ≡ kind }
         ensures rule { result.rule ≡ rule }
+        ensures beside { B.beside result.heap.bank ≡ B.beside bank }
     {
         let size = link(&mut bank);
         Store {
@@ -91,6 +92,7 @@ impl<B: Bank, K: Kind, R: StartRule> Store<B, K, R> {
             with_phase self.old.phase (begun (⟦<Self as ListStore>⟧.state self.old)) }
         ensures registers { self.new.registers ≡ self.old.registers }
         ensures kind { self.new.kind ≡ self.old.kind }
+        ensures beside { B.beside self.new.heap.bank ≡ B.beside self.old.heap.bank }
         ensures rule { self.new.rule ≡ self.old.rule }
     {
         self.pool.sweeper = 0;
@@ -104,6 +106,7 @@ impl<B: Bank, K: Kind, R: StartRule> Store<B, K, R> {
         ensures work { result ≡ work_of (⟦<Self as ListStore>⟧.state self.old) }
         ensures registers { self.new.registers ≡ self.old.registers }
         ensures kind { self.new.kind ≡ self.old.kind }
+        ensures beside { B.beside self.new.heap.bank ≡ B.beside self.old.heap.bank }
         ensures rule { self.new.rule ≡ self.old.rule }
     {
         match self.phase {
@@ -119,6 +122,7 @@ impl<B: Bank, K: Kind, R: StartRule> Store<B, K, R> {
         ensures answer { result ≡ over (R.says self.old.rule self.old.pool.count) (⟦<Self as ListStore>⟧.state self.old) }
         ensures registers { self.new.registers ≡ self.old.registers }
         ensures kind { self.new.kind ≡ self.old.kind }
+        ensures beside { B.beside self.new.heap.bank ≡ B.beside self.old.heap.bank }
         ensures rule { RuleAfter R.becomes (is_idle self.old.phase) self.old.rule self.old.pool.count self.new.rule }
     {
         match self.phase {
@@ -135,6 +139,7 @@ impl<B: Bank, K: Kind, R: StartRule> Store<B, K, R> {
         ensures work { result ≡ work_of (⟦<Self as ListStore>⟧.state self.old) }
         ensures registers { self.new.registers ≡ self.old.registers }
         ensures kind { self.new.kind ≡ self.old.kind }
+        ensures beside { B.beside self.new.heap.bank ≡ B.beside self.old.heap.bank }
         ensures rule { RuleAfter R.becomes (is_idle self.old.phase) self.old.rule self.old.pool.count self.new.rule }
     {
         let work = self.share();
@@ -157,6 +162,7 @@ impl<B: Bank, K: Kind, R: StartRule> Store<B, K, R> {
         ensures state { ⟦<Self as ListStore>⟧.state self.new ≡
             with_heap (offer_in self.old.phase word (⟦<Self as ListStore>⟧.state self.old).heap) (⟦<Self as ListStore>⟧.state self.old) }
         ensures kind { self.new.kind ≡ self.old.kind }
+        ensures beside { B.beside self.new.heap.bank ≡ B.beside self.old.heap.bank }
         ensures rule { self.new.rule ≡ self.old.rule }
     {
         match self.phase {
@@ -172,6 +178,7 @@ impl<B: Bank, K: Kind, R: StartRule> Store<B, K, R> {
         ensures answer { outcome_by Answer.Worked result ≡
             (take_from (self.old.pool.count == 0) self.old.pool.head work i car cdr (⟦<Self as ListStore>⟧.state self.old)).outcome }
         ensures kind { self.new.kind ≡ self.old.kind }
+        ensures beside { B.beside self.new.heap.bank ≡ B.beside self.old.heap.bank }
         ensures rule { self.new.rule ≡ self.old.rule }
     {
         if self.pool.count == 0 {
@@ -211,6 +218,7 @@ impl<B: Bank, K: Kind, R: StartRule> Store<B, K, R> {
         ensures state { ⟦<Self as ListStore>⟧.state self.new ≡ (read_by (word_of half) word i a (⟦<Self as ListStore>⟧.state self.old)).state }
         ensures answer { outcome_of result ≡ (read_by (word_of half) word i a (⟦<Self as ListStore>⟧.state self.old)).outcome }
         ensures kind { self.new.kind ≡ self.old.kind }
+        ensures beside { B.beside self.new.heap.bank ≡ B.beside self.old.heap.bank }
         ensures rule { self.new.rule ≡ self.old.rule }
     {
         let Word::Cell(n) = word else {
@@ -227,6 +235,7 @@ impl<B: Bank, K: Kind, R: StartRule> Store<B, K, R> {
         ensures state { ⟦<Self as ListStore>⟧.state self.new ≡ (write (with_word half) n word (⟦<Self as ListStore>⟧.state self.old)).state }
         ensures answer { outcome_of result ≡ (write (with_word half) n word (⟦<Self as ListStore>⟧.state self.old)).outcome }
         ensures kind { self.new.kind ≡ self.old.kind }
+        ensures beside { B.beside self.new.heap.bank ≡ B.beside self.old.heap.bank }
         ensures rule { self.new.rule ≡ self.old.rule }
     {
         self.heap.bank.set(n, half.to(word))?;
@@ -241,6 +250,7 @@ impl<B: Bank, K: Kind, R: StartRule> Store<B, K, R> {
         ensures answer { outcome_of result ≡
             (replace_by (word_of half) (with_word half) target a word (⟦<Self as ListStore>⟧.state self.old)).outcome }
         ensures kind { self.new.kind ≡ self.old.kind }
+        ensures beside { B.beside self.new.heap.bank ≡ B.beside self.old.heap.bank }
         ensures rule { self.new.rule ≡ self.old.rule }
     {
         let Word::Cell(n) = target else {

@@ -26,6 +26,10 @@ impl<B: Bank, K: Kind, R: StartRule> ListStore for Store<B, K, R> {
 
     ghost rule = { λ s. s.rule };
 
+    ghost Beside = { B.Bank.Beside };
+
+    ghost beside = { λ s. B.Bank.beside s.heap.bank };
+
     ghost keeps = { λ s idle low. R.StartRule.lawful s.rule s.pool.count low };
 
     ghost grounded = { grounded-by B.Bank.limit B.Bank.cells K.Kind.coded K.Kind.valued R.StartRule.floor B.Bank.sound };

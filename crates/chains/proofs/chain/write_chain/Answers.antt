@@ -19,7 +19,8 @@ loop-i-preserved g c =
     let here = c.loop-i.invariant.0 ∙ sym c.word_limit.ensures in
     let after = rw here at c.write_cell.ensures.after in (
       c.write_cell.ensures.fixed ∙ c.loop-i.invariant.0,
-      chain-step c.word_limit.result c.size.result from next atoms (bank.cells b) (bank.cells c.loop-i.bank) _ i c.cdr_of.result takes c.size.ensures few wide c.loop-i-test.true c.cdr_of.ensures c.loop-i.invariant.1 after,
+      c.write_cell.ensures.beside ∙ c.loop-i.invariant.1,
+      chain-step c.word_limit.result c.size.result from next atoms (bank.cells b) (bank.cells c.loop-i.bank) _ i c.cdr_of.result takes c.size.ensures few wide c.loop-i-test.true c.cdr_of.ensures c.loop-i.invariant.2 after,
     )
 
 pub returns : goal.returns
@@ -32,6 +33,7 @@ returns g c =
     let all : c.loop-i.i ≡ length (chain from atoms) = omega (arith, length-chain from atoms, c.loop-i-test.false, c.loop-i.auto.i-end) in
     record {
       answer = rw (c.word_limit.ensures, c.size.ensures) at c.in_ok-next.ensures;
-      after = rw all at (c.loop-i.invariant.1 ∙ paste_all cells from (chain from atoms) c.loop-i.i all);
+      after = rw all at (c.loop-i.invariant.2 ∙ paste_all cells from (chain from atoms) c.loop-i.i all);
       fixed = c.loop-i.invariant.0;
+      beside = c.loop-i.invariant.1;
     }

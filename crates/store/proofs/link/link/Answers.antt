@@ -12,6 +12,7 @@ loop-n-preserved g c =
           c.loop-n-test.true len few law.wide c.first_of.ensures c.write_cell.ensures.after c.loop-n.invariant.0,
       link-length (g.B.Bank.limit c.loop-n.bank) _ _ c.loop-n.n c.first_of.result c.write_cell.ensures.after ∙ c.loop-n.invariant.1,
       c.write_cell.ensures.fixed ∙ c.loop-n.invariant.2,
+      c.write_cell.ensures.beside ∙ c.loop-n.invariant.3,
     )
 
 pub returns-clause-after : goal.returns-clause-after

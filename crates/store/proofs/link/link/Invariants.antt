@@ -9,3 +9,4 @@ invariant-loop-n g l =
     ((k : ℕ) → k < l.n → at (g.B.Bank.cells l.bank) k ≡ free (k + 1) (l.size - (k + 1)))
     × (length (g.B.Bank.cells l.bank) ≡ length (g.B.Bank.cells l.initial.bank))
     × (g.B.Bank.limit l.bank ≡ g.B.Bank.limit l.initial.bank)
+    × (g.B.Bank.beside l.bank ≡ g.B.Bank.beside l.initial.bank)

@@ -11,6 +11,7 @@ loop-call-init g c =
       λ fixed size e. run-as l.says l.becomes fixed size (l.rule c.args.store) m (l.rule c.args.store) [] [] [] (vec_items c.new-outcomes.result) refl (sym c.new-outcomes.ensures.items)
           (run_none l.says l.becomes fixed size (l.rule c.args.store) (grounded-new fixed size m e ground) m e),
       refl,
+      refl,
     )
 
 pub loop-call-preserved : goal.loop-call-preserved
@@ -23,6 +24,7 @@ loop-call-preserved g c =
           c.loop-call-test.true c.call-item.is c.in_default.ensures.items
           (c.go_on-outcome.ensures.law fixed size (grounded-new fixed size (l.state c.args.store) e ground) (l.rule c.args.store) _ _ (c.loop-call.invariant.0 fixed size e)),
       c.go_on-outcome.ensures.kind ∙ c.loop-call.invariant.1,
+      c.go_on-outcome.ensures.beside ∙ c.loop-call.invariant.2,
     )
 
 pub returns-in-Err-clause-law : goal.returns-in-Err-clause-law

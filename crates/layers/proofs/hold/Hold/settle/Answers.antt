@@ -11,6 +11,7 @@ loop-i-preserved g c =
     let inv = c.loop-i.invariant in
     record {
       limit = c.spill.ensures.fixed ∙ inv.limit;
+      beside = c.spill.ensures.beside ∙ inv.beside;
       shown =
           rw (c.spill.ensures.empty, c.spill.ensures.below, inv.limit)
           (spill-keeps (g.B.Bank.limit c.args.self.now.below) s.places.slots (g.B.Bank.cells s.below) c.loop-i.i inv.full ∙ inv.shown);
@@ -29,4 +30,5 @@ returns g c =
       below = sym (held_none (bank.limit c.args.self.now.below) (bank.cells s.below)) ∙ rw none at inv.shown;
       empty = none;
       fixed = inv.limit;
+      beside = inv.beside;
     }

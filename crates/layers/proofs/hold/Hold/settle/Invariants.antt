@@ -10,6 +10,7 @@ invariant-loop-i g l =
     let t = l.initial.self in
     record {
       limit : bank.limit s.below ≡ bank.limit t.below;
+      beside : bank.beside s.below ≡ bank.beside t.below;
       shown : held (bank.limit t.below) s.places.slots (bank.cells s.below) ≡ held (bank.limit t.below) t.places.slots (bank.cells t.below);
       full : length s.places.slots ≡ 16;
       empty : (k : ℕ) → k < l.i → get_or s.places.slots k None ≡ None;

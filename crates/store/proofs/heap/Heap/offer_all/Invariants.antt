@@ -8,3 +8,4 @@ abbrev pub invariant-loop-word : goal.invariant-loop-word
 invariant-loop-word g l =
     (offers (drop l.word-index l.words) (heap_of g.B.Bank.cells l.self) ≡ offers l.words (heap_of g.B.Bank.cells l.initial.self))
     × (g.B.Bank.limit l.self.bank ≡ g.B.Bank.limit l.initial.self.bank)
+    × (g.B.Bank.beside l.self.bank ≡ g.B.Bank.beside l.initial.self.bank)

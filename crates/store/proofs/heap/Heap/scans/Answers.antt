@@ -13,4 +13,5 @@ loop-preserved g c =
       scanned-more h t c.args.k c.loop.counter c.loop.popped c.scan-popped.result c.loop-test.true c.scan-popped.ensures.heap r ∙ c.loop.invariant.1,
       omega arith,
       c.scan-popped.ensures.limit ∙ c.loop.invariant.3,
+      c.scan-popped.ensures.beside ∙ c.loop.invariant.4,
     )

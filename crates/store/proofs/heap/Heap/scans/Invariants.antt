@@ -11,3 +11,4 @@ invariant-loop g l =
     × (l.popped + length (scanned (l.k - l.counter) (heap l.self)) ≡ length (scanned l.k (heap l.initial.self)))
     × (l.popped ≤ l.counter)
     × (g.B.Bank.limit l.self.bank ≡ g.B.Bank.limit l.initial.self.bank)
+    × (g.B.Bank.beside l.self.bank ≡ g.B.Bank.beside l.initial.self.bank)

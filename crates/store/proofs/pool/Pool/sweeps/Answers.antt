@@ -13,6 +13,7 @@ loop-left-init g c =
       ap (λ (j : ℕ). sweeps (g.B.Bank.limit c.args.bank.now) j g0) n ∙ sweeps-most (g.B.Bank.limit c.args.bank.now) c.args.k g0,
       omega (arith, n),
       refl,
+      refl,
     )
 
 pub loop-left-preserved : goal.loop-left-preserved
@@ -28,6 +29,7 @@ loop-left-preserved g c =
           ∙ c.loop-left.invariant.0,
       left-after (limit c.loop-left.bank) c.loop-left.left c.run_after-run.result e t some c.loop-left.invariant.1 few c.sweep-was_free.ensures.ground,
       c.sweep-was_free.ensures.limit ∙ c.loop-left.invariant.2,
+      c.sweep-was_free.ensures.beside ∙ c.loop-left.invariant.3,
     )
 
 -- What a round adds fits.

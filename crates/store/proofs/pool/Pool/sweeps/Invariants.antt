@@ -11,6 +11,7 @@ invariant-loop-left g l =
     (sweeps (limit l.bank) l.left (ground_of cells l.bank l.pool) ≡ sweeps (limit l.initial.bank) l.k (ground_of cells l.initial.bank l.initial.self))
     × (l.left ≤ length (cells l.bank) - l.pool.sweeper)
     × (limit l.bank ≡ limit l.initial.bank)
+    × (g.B.Bank.beside l.bank ≡ g.B.Bank.beside l.initial.bank)
 
 abbrev pub decreases-loop-left : goal.decreases-loop-left
 decreases-loop-left g l = l.left
