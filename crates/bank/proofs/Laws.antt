@@ -1,18 +1,21 @@
 -- What follows from an answer of a bank, and what its cells are after a write.
-use Rattle.std.proofs.Common.{◌≡◌, ℕ, ◌<◌, ◌≤◌, true, false, List, length, get_or, set, Ok, Err, Result, arith}
+use Rattle.std.proofs.Common.{◌≡◌, ℕ, ◌<◌, ◌≤◌, Bool, true, false, List, length, get_or, set, Ok, Err, Result, arith}
 use Rattle.std.proofs.lemmas.Grind.{common_steps, get_or-set_at}
 use Rattle.std.proofs.lemmas.List.{length-set, set_past, set-set}
-use Rattle.std.proofs.lemmas.Bool.{lt-ltb}
+use Rattle.std.proofs.lemmas.Bool.{lt-ltb, le-ltb}
 use Rattle.bank.specs.declared.word.Word.{Word}
 use Rattle.bank.specs.declared.word.Cell.{Cell}
 use Rattle.bank.specs.declared.word.Change.{Change}
 use Rattle.bank.specs.declared.fault.BankFault.{BankFault}
 use Rattle.bank.specs.Words.{number_of, blank, with_car, with_cdr, with_mark}
-use Rattle.bank.specs.Banks.{fits, on_cell, taken, asked, writable, word_taken, changed, word_put, change_put, cell_put}
+use Rattle.bank.specs.Banks.{fits, on_cell, taken, asked, writable, word_taken, mark_taken, changed, word_put, change_taken, change_put, cell_put}
 
--- A call on a cell that there is.
+-- A call on a cell that there is, and on one that there is not.
 pub on_cell-here : {A : Type 0} (cells : List Cell) (n : ℕ) (r : Result A BankFault) → n < length cells → on_cell cells n r ≡ r
 on_cell-here cells n r h = rw (lt-ltb n (length cells) h)
+
+pub on_cell-past : {A : Type 0} (cells : List Cell) (n : ℕ) (r : Result A BankFault) → length cells ≤ n → on_cell cells n r ≡ Err (BankFault.NoSuchCell n)
+on_cell-past cells n r h = rw (le-ltb n (length cells) h)
 
 -- What an answer tells.
 pub taken-told : {A : Type 0} (limit : ℕ) (w : Word) (y x : A) → Ok x ≡ taken limit w (Ok y) → fits limit w ≡ true
@@ -33,6 +36,20 @@ asked-ok cells n c e = on_cell-told cells n (get_or cells n blank) c e
 pub writable-ok : (limit : ℕ) (cells : List Cell) (n : ℕ) (w : Word) (c : Cell) → Ok c ≡ writable limit cells n w → (n < length cells) × (fits limit w ≡ true) × (c ≡ get_or cells n blank)
 writable-ok limit cells n w c e = grind (arith, common_steps)
 
+-- A write after asking whether it may be made: it may, and puts f of the cell that was told.
+pub put-took : (put : Word → Cell → Cell) (limit : ℕ) (cells : List Cell) (n : ℕ) (w : Word) (c : Cell) → Ok c ≡ writable limit cells n w → (Ok tt ≡ word_taken limit cells n w) × (set cells n (put w c) ≡ word_put put limit cells n w)
+put-took put limit cells n w c e = grind (arith, common_steps)
+
+pub mark-took : (f : Cell → Cell) (cells : List Cell) (n : ℕ) (c : Cell) → Ok c ≡ asked cells n → (Ok tt ≡ mark_taken cells n) × (set cells n (f c) ≡ changed f cells n)
+mark-took f cells n c e = grind (arith, common_steps)
+
+-- A change of the mark brings nil, which fits every limit.
+pub mark-taken : (limit : ℕ) (cells : List Cell) (n : ℕ) (m : Bool) → change_taken limit cells n (Change.Mark m) ≡ mark_taken cells n
+mark-taken limit cells n m = grind (arith, common_steps)
+
+pub mark-put : (limit : ℕ) (cells : List Cell) (n : ℕ) (m : Bool) → change_put limit cells n (Change.Mark m) ≡ changed (with_mark m) cells n
+mark-put limit cells n m = grind (arith, common_steps)
+
 -- A write where there is no such cell.
 pub changed-past : (f : Cell → Cell) (cells : List Cell) (n : ℕ) → length cells ≤ n → changed f cells n ≡ cells
 changed-past f cells n h = set_past cells n _ h
@@ -43,6 +60,9 @@ put-past put limit cells n w h = grind (arith, common_steps, changed-past (put w
 -- A write after asking whether it may be made: it may not, and nothing is written.
 pub put_refused : (put : Word → Cell → Cell) (limit : ℕ) (cells : List Cell) (n : ℕ) (w : Word) (d : BankFault) → Err d ≡ writable limit cells n w → (Err d ≡ word_taken limit cells n w) × (cells ≡ word_put put limit cells n w)
 put_refused put limit cells n w d e = grind (arith, common_steps, changed-past)
+
+pub mark-refused : (f : Cell → Cell) (cells : List Cell) (n : ℕ) (d : BankFault) → Err d ≡ asked cells n → (Err d ≡ mark_taken cells n) × (cells ≡ changed f cells n)
+mark-refused f cells n d e = grind (arith, common_steps, changed-past)
 
 -- Two writes to one cell.
 pub changed-changed : (f h : Cell → Cell) (cells : List Cell) (n : ℕ) → changed h (changed f cells n) n ≡ changed (λ c. h (f c)) cells n

@@ -31,6 +31,10 @@ writable limit cells n w = on_cell cells n (taken limit w (Ok (slice_index_or ce
 abbrev pub word_taken : ℕ → List Cell → ℕ → Word → Result (Unit {0}) BankFault
 word_taken limit cells n w = on_cell cells n (taken limit w (Ok tt))
 
+-- What a change of a mark is answered: a mark fits every limit.
+abbrev pub mark_taken : List Cell → ℕ → Result (Unit {0}) BankFault
+mark_taken cells n = on_cell cells n (Ok tt)
+
 -- Cell n replaced by its image under f; the cells as they are where there is no cell n.
 abbrev pub changed : (Cell → Cell) → List Cell → ℕ → List Cell
 changed f cells n = slice_set cells n (f (slice_index_or cells n blank))

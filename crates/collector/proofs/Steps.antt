@@ -14,7 +14,7 @@ use Rattle.collector.specs.Lists.{Mem}
 use Rattle.collector.specs.States.{Heap, State, at, roots}
 use Rattle.collector.specs.Turns.{offer, work}
 use Rattle.collector.specs.Outcomes.{refuse, done, answer, register}
-use Rattle.collector.specs.Calls.{with_register, with_heap, with_pool, with_cells, load_if, unlinked, take, read_by, offer_in, write, replace_by, car_of, cdr_of, perform, checked}
+use Rattle.collector.specs.Calls.{replace, with_register, with_heap, with_pool, with_cells, load_if, unlinked, take, read_by, offer_in, write, replace_by, car_of, cdr_of, perform, checked}
 use Rattle.collector.specs.Reach.{Reachable, Free}
 use Rattle.collector.specs.Runs.{Event, next, Collection, makes_turn, onward_if, onward}
 use Rattle.collector.proofs.Cells.{reserved-within}
@@ -199,6 +199,9 @@ module _ {V : Type 0} {field : Cell → Word} {put : Word → Cell → Cell} (f 
   replaced-is a b n live =
       rw (asked_is i n live.within)
       (write-is put n (register s.registers b) (with_heap (offered-heap n) s) (let l = live.within in let q = (kept n live).grown.same.len in omega arith) (sound-limit i (register s.registers b) (register-sound i b)))
+
+  pub replace-is : (a b n : ℕ) → register s.registers a ≡ Word.Cell n → Used i n → replace field put a b s ≡ done (replaced-state n (register s.registers b))
+  replace-is a b n e live = rw e (replaced-is a b n live)
 
 -- Each call keeps the invariant.
 module _ {V : Type 0} {c : Collection V} {s : State V} (i : Inv c s) where

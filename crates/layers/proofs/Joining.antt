@@ -1,7 +1,7 @@
 -- A write through a join.
 use Rattle.std.proofs.Common.{◌≡◌, ℕ, ◌+◌, ◌-◌, ◌<◌, ◌≤◌, min, true, List, ◌++◌, length, get_or, take, drop, Ok, Result, sym, refl, ◌∙◌, arith}
 use Rattle.std.proofs.lemmas.Grind.{common_steps}
-use Rattle.std.proofs.lemmas.List.{length-take, length-append, length-set, get_or-take, get_or_append_left, get_or-append_right, set-append_left, set-append_right, drop-set-lt}
+use Rattle.std.proofs.lemmas.List.{length-take, length-append, length-set, get_or-take, get_or_append_left, get_or-append_right, set-append_left, set-append_right, drop-set-lt, take-append-drop}
 use Rattle.std.proofs.Math.Seq.{take-set-lt}
 use Rattle.std.proofs.lemmas.Bool.{leb-true, le-leb}
 use Rattle.bank.specs.declared.fault.BankFault.{BankFault}
@@ -16,6 +16,11 @@ use Rattle.layers.specs.Joins.{joined, beyond, side_of}
 pub length-joined : (first second : List Cell) → length (joined first second) ≡ min (length first + length second) 4096
 unfolding joined
 length-joined first second = rw (length-take, length-append) (omega arith)
+
+-- The cells of the two banks are those that a join shows and those past them.
+pub both-kept : (first second : List Cell) → first ++ second ≡ joined first second ++ beyond first second
+unfolding joined beyond
+both-kept first second = sym (take-append-drop 4096 (first ++ second))
 
 -- That cell n lies in the first bank, or in the second, and is cell i there.
 pub record InFirst (first second : List Cell) (n i : ℕ) : Type 0 where

@@ -1,3 +1,4 @@
 mod Fields
 mod Fronts
+mod Records
 mod Writes
