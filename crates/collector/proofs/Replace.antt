@@ -1,5 +1,5 @@
 -- A word of a live cell is replaced: what that keeps of the invariant.
-use Rattle.std.proofs.Common.{◌≡◌, ℕ, ◌⊎◌, List, rules, ap}
+use Rattle.std.proofs.Common.{◌≡◌, ℕ, ◌⊎◌, List, rules, ap, sym, ◌∙◌, arith}
 use Rattle.bank.specs.Banks.{changed}
 use Rattle.bank.specs.declared.word.Word.{Word}
 use Rattle.bank.specs.declared.word.Cell.{Cell}
@@ -7,7 +7,7 @@ use Rattle.collector.specs.States.{Pool, at}
 use Rattle.collector.specs.Calls.{car_of}
 use Rattle.collector.proofs.Cells.{changed-here, reads_same}
 use Rattle.collector.proofs.Chains.{links-on}
-use Rattle.collector.proofs.Put.{Put, vacant-was, put-to, put-closed, put-sweeping, Marks}
+use Rattle.collector.proofs.Put.{Put, vacant-was, put-to, put-closed, Marks}
 use Rattle.collector.proofs.Invariant.{Vacant, Sound, Live, Done, Sweeping, Core}
 
 module _ (R F : ℕ → Type 0) (popped freed : List ℕ) (limit : ℕ) (cs : List Cell) (pool : Pool) (ws : List Word) (n : ℕ) (f : Cell → Cell) where
@@ -50,8 +50,15 @@ module _ {R F : ℕ → Type 0} {popped freed : List ℕ} {limit : ℕ} {cs : Li
     log = t.core.log;
   }
 
-  pub replaced-sweeping : {stack : List ℕ} → Sweeping R F pool.sweeper popped cs stack → Sweeping R F pool.sweeper popped ds stack
-  replaced-sweeping s = put-sweeping put (put-to put pool.sweeper n t.live) (λ l. search (rules, mark-same, s.low, t.live)) (λ l. search (rules, mark-same, s.live, t.live)) s
+  -- At any place of the sweep: the cell is no vacant one, and no mark changes.
+  pub replaced-sweeping : {p : ℕ} {stack : List ℕ} → Sweeping R F p popped cs stack → Sweeping R F p popped ds stack
+  replaced-sweeping {p} s = record {
+    low = λ k b l. mark-same k ∙ s.low k b (omega (arith, l, put.len));
+    holds = λ k b l mk. put-to put p k (s.holds k b (omega (arith, l, put.len)) (sym (mark-same k) ∙ mk));
+    live = λ k b l. mark-same k ∙ s.live k b (record { within = omega (arith, l.within, put.len); used = λ v. l.used (vacant-is k v); known = l.known });
+    rest = s.rest;
+    covers = s.covers;
+  }
 
   -- A field that is replaced had its old word offered.
   pub replaced-marks : pool.sweeper ≡ 0 → ((f (at cs n)).car ≡ (at cs n).car) ⊎ Done cs (at cs n).car → ((f (at cs n)).cdr ≡ (at cs n).cdr) ⊎ Done cs (at cs n).cdr → Marks put
